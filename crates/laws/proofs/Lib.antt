@@ -1,0 +1,17 @@
+pub mod Tests
+pub mod Integers
+pub mod Order
+pub mod Ring
+pub mod Certificates
+pub mod WithinLaws
+pub mod Words
+pub mod Doubles
+pub mod Exact
+pub mod Members
+pub mod Sums
+pub mod Tables
+pub mod Firsts
+pub mod Turns
+pub mod Uses
+pub mod Pigeons
+pub mod Checks

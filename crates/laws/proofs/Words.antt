@@ -1,0 +1,72 @@
+-- Signed machine arithmetic that cannot overflow. `Reads B y z`: the number y that the machine works with is the whole number z, at most B in size.
+-- A chain of operations is a term of the code's shape; each step's side condition is a test of numerals, `tt`.
+use mathlib.Core.Path.{_≡_, refl, sym, ap, ap₂, subst, _∙_}
+use Prim.Native.Nat.{ℕ, _+_, _*_, _^_}
+use native.Mathlib.Nat.{lt-of-lt-of-le}
+use lib.Dec.{T, ltb, ltb→lt, lit≤, eqb, eqb→eq, eqb-refl}
+use lib.IntN.{ℤ, pos, negℤ, _+ℤ_, _-ℤ_, _*ℤ_, +ℤ-idl}
+use mir.Syntax.{Width, w32, w64}
+use mir.Val.{SFits, toZ, ofZ, hbits}
+use mir.ValLaws.{toZ-ofZ}
+use Rattle.laws.specs.Numbers.{Within, eqZ}
+use Rattle.laws.proofs.Tests.{same-test}
+use Rattle.laws.proofs.Order.{eqZ→eq, eqZ-refl}
+use Rattle.laws.proofs.WithinLaws.{within-add, within-sub, within-mul, within-neg, within-fits}
+
+pub record Reads (B : ℕ) (y z : ℤ) : Type 0 where
+  pub is : y ≡ z
+  pub bound : Within B z
+
+-- what it says of the machine's number itself
+pub size : {B : ℕ} {y z : ℤ} → Reads B y z → Within B y
+size {B} h = subst (Within B) (sym (h .is)) (h .bound)
+
+pub r-int : {B : ℕ} {z : ℤ} → Within B z → Reads B z z
+r-int h = record { is = refl; bound = h }
+
+pub r-from : {B : ℕ} {r x z : ℤ} → r ≡ x → Reads B x z → Reads B r z
+r-from e h = record { is = e ∙ h .is; bound = h .bound }
+
+module _ {A B : ℕ} {x y a b : ℤ} (h : Reads A x a) (k : Reads B y b) where
+  pub r-add : Reads (A + B) (x +ℤ y) (a +ℤ b)
+  r-add = record { is = ap₂ _+ℤ_ (h .is) (k .is); bound = within-add (h .bound) (k .bound) }
+
+  pub r-sub : Reads (A + B) (x -ℤ y) (a -ℤ b)
+  r-sub = record { is = ap₂ _-ℤ_ (h .is) (k .is); bound = within-sub (h .bound) (k .bound) }
+
+  pub r-mul : Reads (A * B) (x *ℤ y) (a *ℤ b)
+  r-mul = record { is = ap₂ _*ℤ_ (h .is) (k .is); bound = within-mul (h .bound) (k .bound) }
+
+-- the machine has -x as 0 - x
+pub r-neg : {A : ℕ} {x a : ℤ} → Reads A x a → Reads A (pos 0 -ℤ x) (negℤ a)
+r-neg {A} {x} {a} h = record { is = +ℤ-idl (negℤ x) ∙ ap negℤ (h .is); bound = within-neg (h .bound) }
+
+-- what an operation at width w asks, and its result once stored and read back
+module _ (w : Width) {A : ℕ} {x a : ℤ} (h : Reads A x a) (t : T (ltb A (2 ^ hbits w))) where
+  pub fits : SFits w x
+  fits = subst (SFits w) (sym (h .is)) (within-fits w (ltb→lt A (2 ^ hbits w) t) (h .bound))
+
+  pub stored : Reads A (toZ w (ofZ w x)) a
+  stored = record { is = toZ-ofZ w x fits ∙ h .is; bound = h .bound }
+
+-- a parameter, a field or an element that is known to be small
+pub r-i32 : {B : ℕ} {z : ℤ} → T (ltb B (2 ^ 31)) → Within B z → Reads B (toZ w32 (ofZ w32 z)) z
+r-i32 t h = stored w32 (r-int h) t
+
+pub r-i64 : {B : ℕ} {z : ℤ} → T (ltb B (2 ^ 63)) → Within B z → Reads B (toZ w64 (ofZ w64 z)) z
+r-i64 t h = stored w64 (r-int h) t
+
+-- an i32 `as i64`
+module _ {z : ℤ} (h : SFits w32 z) where
+  pub wide-fits : SFits w64 (toZ w32 (ofZ w32 z))
+  wide-fits = rw (toZ-ofZ w32 z h) (record { sfits = lt-of-lt-of-le (h .sfits) (lit≤ tt) })
+
+  pub wide-is : toZ w64 (ofZ w64 (toZ w32 (ofZ w32 z))) ≡ z
+  wide-is = toZ-ofZ w64 (toZ w32 (ofZ w32 z)) wide-fits ∙ toZ-ofZ w32 z h
+
+-- `==` of two signed numbers is a test of their bits
+pub eq-test : (w : Width) {a b : ℤ} → SFits w a → SFits w b → eqb (ofZ w a) (ofZ w b) ≡ eqZ a b
+eq-test w {a} {b} h k =
+    same-test (eqb (ofZ w a) (ofZ w b)) (eqZ a b)
+    (λ t. subst (λ (z : ℤ). T (eqZ a z)) (sym (toZ-ofZ w a h) ∙ ap (toZ w) (eqb→eq (ofZ w a) (ofZ w b) t) ∙ toZ-ofZ w b k) (eqZ-refl a))
+    (λ t. subst (λ (z : ℤ). T (eqb (ofZ w a) (ofZ w z))) (eqZ→eq a b t) (eqb-refl (ofZ w a)))

@@ -1,0 +1,1 @@
+// Laws of numbers, lists and doubles: this crate has no code.
