@@ -1,0 +1,4 @@
+pub mod RangeLaws
+pub mod StrayLaws
+pub mod SoundLaws
+pub mod JoinLaws

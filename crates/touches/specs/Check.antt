@@ -1,0 +1,38 @@
+-- 01 'Refusal numbers': 1, 2 and 3 of a lent coordinate list, in this order; the place of 3 is the first such touch.
+use Prim.Native.Nat.{ℕ, suc, _*_, _/_, _%_}
+use mathlib.Core.List.{List, [], _∷_}
+use mathlib.Core.Bool.{Bool, true, false}
+use lib.Dec.{leb, eqb}
+use lib.IntN.{ℤ}
+use lib.ListN.{length}
+use Rattle.touches.specs.Limits.{mostTouches, inRange}
+use Rattle.touches.specs.Touches.{touchCount, touchNo, refusal}
+use Rattle.touches.specs.declared.Refusal.{Refusal}
+use Rattle.touches.specs.declared.Stray.{Stray}
+use Rattle.touches.specs.declared.Stray.the-variants.{Nowhere, At}
+use Rattle.touches.specs.declared.Checked.{Checked}
+use Rattle.touches.specs.declared.Checked.the-variants.{Accepted, Refused}
+
+abbrev pub pick : {A : Type 0} → Bool → A → A → A
+pick true a b = a
+pick false a b = b
+
+-- the touch of the first coordinate out of range, the list's first being coordinate number i
+unfoldable pub strayFrom : ℕ → List ℤ → Stray
+strayFrom i [] = Nowhere
+strayFrom i (x ∷ cs) = pick (inRange x) (strayFrom (suc i) cs) (At (touchNo (i / 3)))
+
+abbrev pub ofStray : ℕ → Stray → Checked
+ofStray n Nowhere = Accepted (record { count = n })
+ofStray n (At k) = Refused (record { number = 3; place = k })
+
+abbrev pub checked : List ℤ → Checked
+checked cs =
+    pick (eqb (length cs % 3) 0)
+    (pick (leb (length cs) (mostTouches * 3)) (ofStray (touchCount cs) (strayFrom 0 cs)) (Refused (refusal 2 0)))
+    (Refused (refusal 1 0))
+
+-- a refusal of the list is the call's answer; else the call goes on
+abbrev pub ifAccepted : {A : Type 0} → Checked → (Refusal → A) → A → A
+ifAccepted (Accepted l) refused a = a
+ifAccepted (Refused r) refused a = refused r

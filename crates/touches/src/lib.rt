@@ -1,0 +1,132 @@
+// The touch list: its limits, touch and face numbers, refusals, and the check of a lent list.
+ghost use mathlib.Core.Path.{_≡_};
+ghost use Prim.Native.Nat.{_*_, _≤_};
+ghost use lib.ListN.{length};
+ghost use Rattle.touches.specs.Limits.{mostTouches, limitsOf, inRange, placeInRange};
+ghost use Rattle.touches.specs.Touches.{refusal};
+ghost use Rattle.touches.specs.Check.{strayFrom, checked};
+
+pub struct TouchNo(pub u16);
+
+pub struct FaceNo(pub u16);
+
+// A touch, a place that is asked about, or the difference of two: room for every number that V works with.
+pub struct Point {
+    pub x: i64,
+    pub y: i64,
+    pub z: i64,
+}
+
+// A lent list that passed refusals 1 to 3: how many touches it holds.
+pub struct TouchList {
+    pub count: usize,
+}
+
+pub struct Limits {
+    pub touches: usize,
+    pub reach: i64,
+    pub faces: usize,
+}
+
+impl TouchList {
+    pub const MOST: usize = 64;
+
+    pub const REACH: i64 = 30000;
+
+    pub const MOST_FACES: usize = 1344;
+
+    // The limits that the definitions name are those of the code.
+    pub fn limits() -> Limits
+        ensures { λ r. ⌜ r ≡ limitsOf ⌝ }
+    {
+        Limits {
+            touches: TouchList::MOST,
+            reach: TouchList::REACH,
+            faces: TouchList::MOST_FACES,
+        }
+    }
+}
+
+// Why a call was refused: the paper's number, and the touch that it speaks of.
+pub struct Refusal {
+    pub number: u8,
+    pub place: TouchNo,
+}
+
+impl Refusal {
+    // A call that succeeded: number 0, place 0.
+    pub fn none() -> Refusal
+        ensures { λ r. ⌜ r ≡ refusal 0 0 ⌝ }
+    {
+        Refusal::because(0)
+    }
+
+    // A refusal that speaks of no touch.
+    pub fn because(number: u8) -> Refusal
+        ensures { λ r. ⌜ r ≡ refusal number 0 ⌝ }
+    {
+        Refusal {
+            number,
+            place: TouchNo(0),
+        }
+    }
+}
+
+pub enum Checked {
+    Accepted(TouchList),
+    Refused(Refusal),
+}
+
+enum Stray {
+    Nowhere,
+    At(TouchNo),
+}
+
+fn in_range(x: i64) -> bool
+    ensures { λ r. ⌜ r ≡ inRange x ⌝ }
+{
+    -TouchList::REACH <= x && x <= TouchList::REACH
+}
+
+// Refusal 7's test: each coordinate of the place is in range.
+pub fn place_in_range(q: Point) -> bool
+    ensures { λ r. ⌜ r ≡ placeInRange q ⌝ }
+{
+    in_range(q.x) & in_range(q.y) & in_range(q.z)
+}
+
+// The first touch with a coordinate out of range.
+fn first_stray(coords: &[i32]) -> Stray
+    requires { ⌜ length (now coords) ≤ mostTouches * 3 ⌝ }
+    ensures { λ r. ⌜ r ≡ strayFrom 0 (now (coords .entry)) ⌝ }
+{
+    let mut i: usize = 0;
+    while i < coords.len() {
+        if !in_range(coords[i] as i64) {
+            return Stray::At(TouchNo((i / 3) as u16));
+        }
+        i += 1;
+    }
+    Stray::Nowhere
+}
+
+// Refusals 1, 2 and 3 of a lent coordinate list, in this order.
+pub fn check(coords: &[i32]) -> Checked
+    ensures { λ r. ⌜ r ≡ checked (now (coords .entry)) ⌝ }
+{
+    if coords.len() % 3 != 0 {
+        return Checked::Refused(Refusal::because(1));
+    }
+    if TouchList::MOST * 3 < coords.len() {
+        return Checked::Refused(Refusal::because(2));
+    }
+    match first_stray(coords) {
+        Stray::Nowhere => Checked::Accepted(TouchList {
+            count: coords.len() / 3,
+        }),
+        Stray::At(k) => Checked::Refused(Refusal {
+            number: 3,
+            place: k,
+        }),
+    }
+}
