@@ -1,0 +1,10 @@
+pub mod Axes
+pub mod Quote
+pub mod VolumeLaws
+pub mod PlaneLaws
+pub mod SignLaws
+pub mod Rays
+pub mod Wings
+pub mod Turn
+pub mod LineLaws
+pub mod FlatLaws

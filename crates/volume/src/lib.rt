@@ -1,0 +1,1 @@
+// V, planes and the four-corner rule over points: definitions and laws, no code.
