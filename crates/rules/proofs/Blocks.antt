@@ -1,0 +1,84 @@
+-- The blocks of 01 'Blocks tried by hand' that are marked *, of the rules themselves, under one statement. Each is computed.
+use mathlib.Core.Path.{_≡_, refl}
+use mathlib.Core.List.{List, [], _∷_, _++_}
+use mathlib.Core.Option.{none, some}
+use Prim.Native.Nat.{ℕ}
+use lib.IntN.{ℤ, pos, negsuc}
+use lib.ListN.{getD}
+use Rattle.touches.specs.declared.Point.{Point}
+use Rattle.volume.specs.Volume.{Vol, normal, inLine}
+use Rattle.rules.specs.Faces.{Face, Places, faceVol, visible}
+use Rattle.rules.specs.Building.{seen, unseen, step, build, hull, volume}
+use Rattle.rules.specs.Placing.{outside, on, inside, firstFront, firstHolding, lies}
+
+abbrev at : ℤ → ℤ → ℤ → Point
+at x y z = record { x = x; y = y; z = z }
+
+abbrev o : ℤ
+o = pos 0
+
+abbrev places : List Point → Places
+places l k = getD l k (at o o o)
+
+abbrev block : List Point
+block = at o o o ∷ at (pos 10) o o ∷ at o (pos 10) o ∷ at o o (pos 10) ∷ []
+
+abbrev and : ℕ → ℕ → ℕ → List Point
+and x y z = block ++ (at (pos x) (pos y) (pos z) ∷ [])
+
+abbrev face : ℕ → ℕ → ℕ → Face
+face a b c = a ∷ b ∷ c ∷ []
+
+abbrev four : List Face
+four = face 1 0 2 ∷ face 1 3 0 ∷ face 0 3 2 ∷ face 2 3 1 ∷ []
+
+abbrev six : List Face
+six = face 1 0 2 ∷ face 1 3 0 ∷ face 0 3 2 ∷ face 2 3 4 ∷ face 3 1 4 ∷ face 1 2 4 ∷ []
+
+abbrev shifted : List Face
+shifted = face 2 0 3 ∷ face 2 4 0 ∷ face 0 4 3 ∷ face 3 4 2 ∷ []
+
+abbrev cross : List Face
+cross = face 0 1 2 ∷ face 0 3 1 ∷ face 1 3 2 ∷ face 2 3 0 ∷ []
+
+abbrev large : List Point
+large = at (pos 512) (pos 512) (pos 512) ∷ at (pos 512) (negsuc 511) (negsuc 511) ∷ at (negsuc 511) (pos 512) (negsuc 511) ∷ at (negsuc 511) (negsuc 511) (pos 512) ∷ []
+
+abbrev plane : List Point
+plane = at (pos 30000) o o ∷ at o (pos 30000) o ∷ at o o (pos 30000) ∷ at (pos 10000) (pos 10000) (pos 10000) ∷ []
+
+-- the touches l, n of them, give the face list h with the volume v
+pub record Gives (l : List Point) (n : ℕ) (h : List Face) (v : ℤ) : Type 0 where
+  pub faces : hull (places l) n ≡ some h
+  pub size : volume (places l) h ≡ v
+
+pub record Blocks : Type 0 where
+  pub T : Gives block 4 four (pos 1000)
+  pub corner : Gives (and 10 10 10) 5 six (pos 3000)
+  pub edge-on : Gives (and 10 10 0) 5 six (pos 2000)
+  pub in-line : Gives (and 20 0 0) 5 six (pos 2000)
+  pub within : Gives (and 1 1 1) 5 four (pos 1000)
+  pub on-face : Gives (and 2 3 5) 5 four (pos 1000)
+  pub repeated : Gives (at o o o ∷ block) 5 shifted (pos 1000)
+  pub wide : Gives large 4 cross (pos 2147483648)
+  pub flat : hull (places plane) 4 ≡ none
+  pub lies-inside : lies (places block) four (at (pos 1) (pos 1) (pos 1)) ≡ inside
+  pub lies-on : lies (places block) four (at (pos 2) (pos 3) (pos 5)) ≡ on 3
+  pub lies-outside : lies (places block) four (at (pos 10) (pos 10) (pos 10)) ≡ outside 3
+
+pub blocks : Blocks
+unfolding hull build step seen unseen volume visible faceVol Vol inLine normal lies firstFront firstHolding
+blocks = record {
+  T = record { faces = refl; size = refl };
+  corner = record { faces = refl; size = refl };
+  edge-on = record { faces = refl; size = refl };
+  in-line = record { faces = refl; size = refl };
+  within = record { faces = refl; size = refl };
+  on-face = record { faces = refl; size = refl };
+  repeated = record { faces = refl; size = refl };
+  wide = record { faces = refl; size = refl };
+  flat = refl;
+  lies-inside = refl;
+  lies-on = refl;
+  lies-outside = refl;
+}

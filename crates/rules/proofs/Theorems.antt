@@ -1,0 +1,174 @@
+-- The theorems, as demands 2 and 3 state them. p says where the touches are and n how many there are; nothing else is asked of them, but for the bound of the volume.
+use mathlib.Core.Path.{_≡_, refl, sym, _∙_, ap, subst}
+use mathlib.Core.Logic.{_↔_, _⊎_, inr}
+use mathlib.Core.List.{List, [], _∷_, _++_}
+use mathlib.Core.Option.{Option, none, some, Option·some-injective}
+use Prim.Native.Nat.{ℕ, _+_, _*_, _-_, _%_, _≤_, _<_}
+use native.Mathlib.Omega.{arith}
+use lib.Dec.{lit<}
+use lib.ListN.{length}
+use lib.IntN.{ℤ, pos, negℤ, _+ℤ_}
+use lib.Signed.{_≤ℤ_, _<ℤ_}
+use mir.Syntax.{w64}
+use mir.Val.{SFits}
+use Rattle.laws.specs.Numbers.{Within}
+use Rattle.laws.specs.Lists.{In, sumZ}
+use Rattle.laws.proofs.Ring.{one, var, _:+_, neg}
+use Rattle.laws.proofs.Certificates.{combine, eqn}
+use Rattle.laws.proofs.WithinLaws.{within-fits}
+use Rattle.laws.proofs.Sums.{sum-neg}
+use Rattle.laws.proofs.Firsts.{no-some}
+use Rattle.touches.specs.declared.Point.{Point}
+use Rattle.touches.specs.Limits.{mostTouches, mostFaces}
+use Rattle.touches.specs.Touches.{touch, touchCount, Near, Sound}
+use Rattle.touches.proofs.SoundLaws.{touch-near}
+use Rattle.touches.proofs.JoinLaws.{whole-length, join-count, join-first, join-second}
+use Rattle.volume.specs.Volume.{mostVolume}
+use Rattle.rules.specs.Faces.{Face, Places, faceVol}
+use Rattle.rules.specs.Start.{Start, start}
+use Rattle.rules.specs.Building.{seen, step, after, hull, volume}
+use Rattle.rules.specs.Placing.{outside, on, inside, lies}
+use Rattle.rules.specs.Demands.{Flat, CornersIn, OnOrInside, Surface, Growth}
+use Rattle.rules.proofs.FaceLaws.{→unseen}
+use Rattle.rules.proofs.Hull.{Hull}
+use Rattle.rules.proofs.StepLaws.{step-same}
+use Rattle.rules.proofs.GrowthLaws.{step-volume}
+use Rattle.rules.proofs.RoomLaws.{hull-corners, hull-room, hull-most, hull-within}
+use Rattle.rules.proofs.StartLaws.{started, not-flat, 0<Q, Q<R, R<S, S<n}
+use Rattle.rules.proofs.MissingLaws.{start-none}
+use Rattle.rules.proofs.CornerLaws.{starters}
+use Rattle.rules.proofs.AfterLaws.{after-hull, taken-below, hull-none, hull-some, hull-built}
+use Rattle.rules.proofs.PlaceLaws.{lies-inside, lies-outside, lies-within}
+use Rattle.rules.proofs.SurfaceLaws.{whole-hull, number-below, surface-of}
+use Rattle.rules.proofs.GrownLaws.{hull-grows}
+
+-- ---- 'How firmly results are fixed': two results that meet one definition are equal; so are two face lists that are the hull of p and n
+pub one-result : {A : Type 0} {x : Option A} {h g : A} → x ≡ some h → x ≡ some g → h ≡ g
+one-result {A} {x} {h} {g} e f = Option·some-injective h g (sym e ∙ f)
+
+-- ---- 'Building', 1
+-- refused as flat exactly if every four touches have V = 0
+pub flat-exact : (p : Places) (n : ℕ) → (hull p n ≡ none) ↔ Flat p n
+flat-exact p n = (to, from)
+  where
+    to : hull p n ≡ none → Flat p n
+    to e = go (start p n) refl
+      where
+        go : (x : Option Start) → start p n ≡ x → Flat p n
+        go none f = start-none p n f
+        go (some s) f = absurd (no-some (sym e ∙ hull-some p n f))
+
+    from : Flat p n → hull p n ≡ none
+    from f = go (start p n) refl
+      where
+        go : (x : Option Start) → start p n ≡ x → hull p n ≡ none
+        go none e = hull-none p n e
+        go (some s) e = absurd (not-flat (started p n e) f)
+
+-- P = 0 < Q < R < S
+pub start-order : (p : Places) (n : ℕ) {s : Start} → start p n ≡ some s → (s .P ≡ 0) × (0 < s .Q) × (s .Q < s .R) × (s .R < s .S) × (s .S < n)
+start-order p n e = let h = started p n e in (h .P-zero, 0<Q h, Q<R h, R<S h, S<n h)
+
+-- ---- after every step: the touches ks are any below n, such as those of `others s k` for k up to n
+module _ (p : Places) (n : ℕ) {s : Start} (e : start p n ≡ some s) (ks : List ℕ) where
+  taken : Hull p (ks ++ starters s) (after p s ks)
+  taken = after-hull (started p n e) ks
+
+  -- the step at k adds the sum of −V(f,k) over the faces visible from k
+  pub step-adds : (k : ℕ) → volume p (step p (after p s ks) k) ≡ volume p (after p s ks) +ℤ sumZ (λ f. negℤ (faceVol p f (p k))) (seen p (after p s ks) k)
+  unfolding volume
+  step-adds k = move (volume p (step p (after p s ks) k)) (sumZ (λ f. faceVol p f (p k)) (seen p (after p s ks) k)) (volume p (after p s ks)) (sumZ (λ f. negℤ (faceVol p f (p k))) (seen p (after p s ks) k))
+      (step-volume taken k (p 0)) (sum-neg (λ f. faceVol p f (p k)) (seen p (after p s ks) k))
+    where
+      move : (w v h u : ℤ) → w +ℤ v ≡ h → u ≡ negℤ v → w ≡ h +ℤ u
+      move w v h u e f = combine (w ∷ v ∷ h ∷ u ∷ []) (eqn one (var 0 :+ var 1) (var 2) ∷ eqn (neg one) (var 3) (neg (var 1)) ∷ []) (var 0) (var 2 :+ var 3) tt e f
+
+  -- a touch that repeats one that was taken changes nothing
+  pub repeat-same : (j k : ℕ) → In j (ks ++ starters s) → p k ≡ p j → step p (after p s ks) k ≡ after p s ks
+  repeat-same j k m q = step-same p (after p s ks) k (λ f i. →unseen p k f (subst (λ (x : Point). pos 0 ≤ℤ faceVol p f x) (sym q) (taken .supporting f i j m)))
+
+  module _ (below : (k : ℕ) → In k ks → k < n) where
+    pub steps-corners : (f : Face) → In f (after p s ks) → CornersIn (λ t. t < n) f
+    steps-corners = hull-corners taken n (taken-below (started p n e) ks below)
+
+    -- at most n·(n − 1)/3 faces, so at most 1,344
+    pub steps-room : 3 * length (after p s ks) ≤ n * (n - 1)
+    steps-room = hull-room taken n (taken-below (started p n e) ks below)
+
+    pub steps-most : n ≤ mostTouches → length (after p s ks) ≤ mostFaces
+    steps-most = hull-most taken n (taken-below (started p n e) ks below)
+
+-- ---- demand 2: closed, no touch in front, a body, not in line, room, and a positive volume
+pub hull-surface : (p : Places) (n : ℕ) {h : List Face} → hull p n ≡ some h → Surface p n h
+hull-surface p n e = surface-of p n e
+
+-- with at most 64 touches, all in range: at most 1,344 faces, and a volume that fits 64 bits
+module _ (p : Places) (n : ℕ) (few : n ≤ mostTouches) {h : List Face} (e : hull p n ≡ some h) where
+  pub most-faces : length h ≤ mostFaces
+  most-faces = hull-most (whole-hull p n e) n (number-below p n e) few
+
+  module _ (near : (t : ℕ) → t < n → Near (p t)) where
+    pub volume-within : Within (mostFaces * mostVolume) (volume p h)
+    unfolding volume
+    volume-within = hull-within (whole-hull p n e) n (number-below p n e) few near (near 0 (omega (arith, S<n (started p n (hull-built p n e .1)))))
+
+    pub volume-fits : SFits w64 (volume p h)
+    volume-fits = within-fits w64 (lit< tt) volume-within
+
+-- so of every list that passes refusals 1 to 3
+pub accepted-few : {cs : List ℤ} → Sound cs → touchCount cs ≤ mostTouches
+accepted-few {cs} c = omega (arith, whole-length cs (c .whole), c .few)
+
+pub accepted-fits : {cs : List ℤ} → Sound cs → {h : List Face} → hull (touch cs) (touchCount cs) ≡ some h → SFits w64 (volume (touch cs) h)
+accepted-fits {cs} c e = volume-fits (touch cs) (touchCount cs) (accepted-few c) e (λ t l. touch-near c t l)
+
+-- ---- demand 3: with m more touches the list is never flat, and it grows as Growth says
+pub hull-goes-on : (p : Places) (n m : ℕ) {h : List Face} → hull p n ≡ some h → (g : List Face) × (hull p (n + m) ≡ some g) × Growth p p n m h g
+hull-goes-on p n m e = hull-grows p p n m (λ t l. refl) e
+
+-- the same in the words of 'Where a place lies'
+module _ {p r : Places} {n m : ℕ} {h g : List Face} (w : Growth p r n m h g) where
+  pub inside-stays : (q : Point) → lies p h q ≡ inside → lies r g q ≡ inside
+  inside-stays q e = lies-inside r g q .1 (w .inside q (lies-inside p h q .0 e))
+
+  pub on-stays : (q : Point) (i : ℕ) → lies p h q ≡ on i → (lies r g q ≡ inside) ⊎ ((j : ℕ) × (lies r g q ≡ on j))
+  on-stays q i e = lies-within r g q .1 (w .on q (lies-within p h q .0 (inr (i, e))))
+
+  pub rises-outside : (volume p h <ℤ volume r g) ↔ ((t : ℕ) × (n ≤ t) × (t < n + m) × (i : ℕ) × (lies p h (r t) ≡ outside i))
+  rises-outside = (
+    (λ l. let u = w .rises .0 l in let o = lies-outside p h (r (u .0)) .1 (u .3) in (u .0, u .1, u .2, o .0, o .1)),
+    (λ u. w .rises .1 (u .0, u .1, u .2, lies-outside p h (r (u .0)) .0 (u .3, u .4))),
+  )
+
+-- touches that repeat touches of the list, at its end, change nothing
+pub repeats-same : (p : Places) (n m : ℕ) {h : List Face} → hull p n ≡ some h → ((t : ℕ) → n ≤ t → t < n + m → (j : ℕ) × (j < n) × (p t ≡ p j)) → hull p (n + m) ≡ some h
+repeats-same p n m {h} e d = let u = hull-goes-on p n m e in
+    u .1 ∙ ap some (u .2 .same (λ t l k. let j = d t l k in subst (OnOrInside p h) (sym (j .2)) (surface-of p n e .behind (j .0) (j .1))))
+
+-- ---- demand 3 of coordinate lists: L is accepted, and M is put after it
+module _ (L M : List ℤ) (l : length L % 3 ≡ 0) (k : length M % 3 ≡ 0) {h : List Face} (e : hull (touch L) (touchCount L) ≡ some h) where
+  pub lists-grow : (g : List Face) × (hull (touch (L ++ M)) (touchCount (L ++ M)) ≡ some g) × Growth (touch L) (touch (L ++ M)) (touchCount L) (touchCount M) h g
+  lists-grow = let u = hull-grows (touch L) (touch (L ++ M)) (touchCount L) (touchCount M) (λ t b. sym (join-first L M l k t b)) e in
+      (u .0, ap (hull (touch (L ++ M))) (join-count L M l k) ∙ u .1, u .2)
+
+  -- the touches of M by their own numbers
+  abbrev SomeOutside : Type 0
+  SomeOutside = (t : ℕ) × (t < touchCount M) × (i : ℕ) × (lies (touch L) h (touch M t) ≡ outside i)
+
+  pub lists-rise : (volume (touch L) h <ℤ volume (touch (L ++ M)) (lists-grow .0)) ↔ SomeOutside
+  lists-rise = ((λ v. to (rises-outside (lists-grow .2) .0 v)), (λ u. rises-outside (lists-grow .2) .1 (from u)))
+    where
+      n : ℕ
+      n = touchCount L
+
+      Later : Type 0
+      Later = (t : ℕ) × (n ≤ t) × (t < n + touchCount M) × (i : ℕ) × (lies (touch L) h (touch (L ++ M) t) ≡ outside i)
+
+      to : Later → SomeOutside
+      to u = (u .0 - n, omega (arith, u .1, u .2), u .3, ap (lies (touch L) h) (sym (join-second L M l k (u .0 - n)) ∙ ap (touch (L ++ M)) (back (u .0) (u .1))) ∙ u .4)
+        where
+          back : (t : ℕ) → n ≤ t → n + (t - n) ≡ t
+          back t b = omega arith
+
+      from : SomeOutside → Later
+      from u = (n + u .0, omega arith, omega (arith, u .1), u .2, ap (lies (touch L) h) (join-second L M l k (u .0)) ∙ u .3)

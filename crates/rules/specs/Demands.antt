@@ -1,0 +1,66 @@
+-- What demands 2 and 3 say, as definitions over any face list.
+use mathlib.Core.Path.{_≡_}
+use mathlib.Core.Logic.{_↔_}
+use mathlib.Core.Bool.{false}
+use mathlib.Core.List.{List}
+use Prim.Native.Nat.{ℕ, _+_, _*_, _-_, _≤_, _<_}
+use lib.ListN.{length}
+use lib.IntN.{pos}
+use lib.Signed.{_≤ℤ_, _<ℤ_}
+use Rattle.laws.specs.Lists.{In, Nodup}
+use Rattle.touches.specs.declared.Point.{Point}
+use Rattle.volume.specs.Volume.{Vol, inLine}
+use Rattle.rules.specs.Faces.{Face, Places, corner, Side, reversed, faceVol, sides}
+use Rattle.rules.specs.Start.{start}
+use Rattle.rules.specs.Building.{volume}
+
+-- every four of the first n touches have V = 0
+abbrev pub Flat : Places → ℕ → Type 0
+Flat p n = (a b c d : ℕ) → a < n → b < n → c < n → d < n → Vol (p a) (p b) (p c) (p d) ≡ pos 0
+
+-- every directed side occurs once and its reverse once
+pub record Closed (h : List Face) : Type 0 where
+  pub once : Nodup (sides h)
+  pub back : (s : Side) → In s (sides h) → In (reversed s) (sides h)
+
+-- f is three numbers, each in M
+pub record CornersIn (M : ℕ → Type 0) (f : Face) : Type 0 where
+  pub three : length f ≡ 3
+  pub a : M (corner f 0)
+  pub b : M (corner f 1)
+  pub c : M (corner f 2)
+
+-- q is behind every face
+abbrev pub Inside : Places → List Face → Point → Type 0
+Inside p h q = (f : Face) → In f h → pos 0 <ℤ faceVol p f q
+
+-- q is on or behind every face
+abbrev pub OnOrInside : Places → List Face → Point → Type 0
+OnOrInside p h q = (f : Face) → In f h → pos 0 ≤ℤ faceVol p f q
+
+-- q is on the plane of a face
+abbrev pub OnPlane : Places → List Face → Point → Type 0
+OnPlane p h q = (f : Face) × In f h × (faceVol p f q ≡ pos 0)
+
+-- q is in front of a face
+abbrev pub Outside : Places → List Face → Point → Type 0
+Outside p h q = (f : Face) × In f h × (faceVol p f q <ℤ pos 0)
+
+-- demand 2: h is a closed surface over the first n touches, no touch is in front of it, and it has a body
+pub record Surface (p : Places) (n : ℕ) (h : List Face) : Type 0 where
+  pub closed : Closed h
+  pub corners : (f : Face) → In f h → CornersIn (λ t. t < n) f
+  pub behind : (t : ℕ) → t < n → OnOrInside p h (p t)
+  pub body : (f : Face) → In f h → (t : ℕ) × (t < n) × (pos 0 <ℤ faceVol p f (p t))
+  pub off-line : (f : Face) → In f h → inLine (p (corner f 0)) (p (corner f 1)) (p (corner f 2)) ≡ false
+  pub room : 3 * length h ≤ n * (n - 1)
+  pub positive : pos 0 <ℤ volume p h
+
+-- demand 3: h is the face list of n touches, at p, and g that of these and m more, at r
+pub record Growth (p r : Places) (n m : ℕ) (h g : List Face) : Type 0 where
+  pub begins : start r (n + m) ≡ start p n
+  pub inside : (q : Point) → Inside p h q → Inside r g q
+  pub on : (q : Point) → OnOrInside p h q → OnOrInside r g q
+  pub keeps : volume p h ≤ℤ volume r g
+  pub rises : (volume p h <ℤ volume r g) ↔ ((t : ℕ) × (n ≤ t) × (t < n + m) × Outside p h (r t))
+  pub same : ((t : ℕ) → n ≤ t → t < n + m → OnOrInside p h (r t)) → g ≡ h

@@ -1,0 +1,6 @@
+pub mod Faces
+pub mod Start
+pub mod Building
+pub mod Placing
+pub mod Demands
+pub mod Alike

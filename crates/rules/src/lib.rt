@@ -1,0 +1,1 @@
+// The rules of building and placing, and the theorems about them: no code.
