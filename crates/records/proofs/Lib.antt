@@ -1,0 +1,11 @@
+pub mod WordLaws
+pub mod BodyLaws
+pub mod SoundLaws
+pub mod TableLaws
+pub mod MachineLaws
+pub mod CheckLaws
+pub mod ReadLaws
+pub mod RecordLaws
+pub mod WriteLaws
+pub mod RoundTrip
+pub mod CopyLaws
