@@ -1,0 +1,15 @@
+pub mod NumberLaws
+pub mod SearchLaws
+pub mod PartLaws
+pub mod ConeLaws
+pub mod StepLaws
+pub mod StartLaws
+pub mod TableLaws
+pub mod LentLaws
+pub mod RaiseLaws
+pub mod SumLaws
+pub mod BuildLaws
+pub mod PlaceLaws
+pub mod CallLaws
+pub mod DoubleLaws
+pub mod PlanedLaws

@@ -1,0 +1,40 @@
+-- 01 'Where a place lies': what the call gives.
+use mathlib.Core.List.{List}
+use Prim.Native.Nat.{ℕ}
+use lib.IntN.{ℤ}
+use Rattle.touches.specs.declared.FaceNo.{FaceNo}
+use Rattle.touches.specs.declared.Point.{Point}
+use Rattle.touches.specs.declared.Refusal.{Refusal}
+use Rattle.touches.specs.Limits.{placeInRange}
+use Rattle.touches.specs.Touches.{touch, touchCount, faceNo, refusal}
+use Rattle.touches.specs.Check.{pick, checked, ifAccepted}
+use Rattle.rules.specs.Placing.{Lies, outside, on, inside, lies}
+use Rattle.hull.specs.Table.{facesIn, usable}
+use Rattle.hull.specs.declared.place.Placed.{Placed}
+use Rattle.hull.specs.declared.place.Placed.the-variants.{Outside, On, Inside, Refused}
+
+abbrev pub placedBy : Lies → Placed
+placedBy (outside f) = Outside (faceNo f)
+placedBy (on f) = On (faceNo f)
+placedBy inside = Inside
+
+-- refusals 1, 2, 3, 6, 7; else where q lies against the faces of the table
+abbrev pub placed : List ℤ → List ℕ → Point → Placed
+placed cs t q =
+    ifAccepted (checked cs) Refused
+    (pick (usable (touchCount cs) t)
+    (pick (placeInRange q) (placedBy (lies (touch cs) (facesIn t) q)) (Refused (refusal 7 0)))
+    (Refused (refusal 6 0)))
+
+-- the paper's number and place of each answer, 0 where the call succeeds, and the face that it names, 0 where it names none
+abbrev pub placedRefusal : Placed → Refusal
+placedRefusal (Outside f) = refusal 0 0
+placedRefusal (On f) = refusal 0 0
+placedRefusal Inside = refusal 0 0
+placedRefusal (Refused r) = r
+
+abbrev pub placedFace : Placed → FaceNo
+placedFace (Outside f) = f
+placedFace (On f) = f
+placedFace Inside = faceNo 0
+placedFace (Refused r) = faceNo 0

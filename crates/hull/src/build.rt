@@ -1,0 +1,109 @@
+// The hull of a touch list, into a lent face table.
+use crate::face::face_volume;
+use crate::raise::Raised;
+use crate::raise::raise;
+use crate::table::put_faces;
+use crate::table::room;
+use crate::touch::touch;
+use touches::Checked;
+use touches::Refusal;
+use touches::TouchList;
+use touches::TouchNo;
+ghost use mathlib.Core.Path.{_≡_};
+ghost use mathlib.Core.Option.{some};
+ghost use Prim.Native.Nat.{_≤_};
+ghost use lib.ListN.{length};
+ghost use Rattle.touches.specs.Limits.{mostFaces};
+ghost use Rattle.touches.specs.Touches.{touch, touchCount, Sound};
+ghost use Rattle.rules.specs.Building.{volume};
+ghost use Rattle.hull.specs.Table.{room};
+ghost use Rattle.hull.specs.Inner.{Ready};
+ghost use Rattle.hull.specs.Build.{hullOf, builtFrom, built, tableAfter, builtRefusal, builtCount, builtVolume};
+
+pub enum Built {
+    Hull(u16, i64),
+    Refused(Refusal),
+}
+
+// The answer's refusal, number 0 where there is none; its face count and volume, 0 where it is refused.
+impl Built {
+    pub fn refusal(self) -> Refusal
+        ensures { λ r. ⌜ r ≡ builtRefusal self ⌝ }
+    {
+        match self {
+            Built::Hull(_, _) => Refusal::none(),
+            Built::Refused(r) => r,
+        }
+    }
+
+    pub fn face_count(self) -> u16
+        ensures { λ r. ⌜ r ≡ builtCount self ⌝ }
+    {
+        match self {
+            Built::Hull(n, _) => n,
+            Built::Refused(_) => 0,
+        }
+    }
+
+    pub fn volume(self) -> i64
+        ensures { λ r. ⌜ r ≡ builtVolume self ⌝ }
+    {
+        match self {
+            Built::Hull(_, v) => v,
+            Built::Refused(_) => 0,
+        }
+    }
+}
+
+// The sum of V(face, touch 0).
+fn six_volume(coords: &[i32], hull: &[[u16; 3]]) -> i64
+    requires { ⌜ Ready (now coords) (now hull) 0 × (length (now hull) ≤ mostFaces) ⌝ }
+    ensures { λ r. ⌜ r ≡ volume (touch (now (coords .entry))) (now (hull .entry)) ⌝ }
+{
+    let q = touch(coords, TouchNo(0));
+    let mut sum: i64 = 0;
+    let mut i: usize = 0;
+    while i < hull.len() {
+        sum += face_volume(coords, hull[i], q);
+        i += 1;
+    }
+    sum
+}
+
+// The hull into the lent table, or refusal 5.
+fn write_hull(faces: &mut [u16], coords: &[i32], hull: &[[u16; 3]]) -> Built
+    requires { ⌜ Ready (now coords) (now hull) 0 × (length (now hull) ≤ mostFaces) ⌝ }
+    ensures answer { λ r. ⌜ r ≡ builtFrom (touch (now (coords .entry))) (room (now (faces .entry))) (some (now (hull .entry))) ⌝ }
+    ensures table { λ r. ⌜ now (faces .exit) ≡ tableAfter r (some (now (hull .entry))) (now (faces .entry)) ⌝ }
+{
+    if room(faces) < hull.len() {
+        return Built::Refused(Refusal::because(5));
+    }
+    let v = six_volume(coords, hull);
+    put_faces(faces, hull);
+    Built::Hull(hull.len() as u16, v)
+}
+
+// Building on coordinates of n touches that passed refusals 1 to 3: refusals 4, 5.
+fn build_checked(faces: &mut [u16], coords: &[i32], n: usize) -> Built
+    requires { ⌜ Sound (now coords) × (n ≡ touchCount (now coords)) ⌝ }
+    ensures answer { λ r. ⌜ r ≡ builtFrom (touch (now (coords .entry))) (room (now (faces .entry))) (hullOf (now (coords .entry))) ⌝ }
+    ensures table { λ r. ⌜ now (faces .exit) ≡ tableAfter r (hullOf (now (coords .entry))) (now (faces .entry)) ⌝ }
+{
+    let mut table = [[0u16; 3]; TouchList::MOST_FACES];
+    match raise(&mut table, coords, n) {
+        Raised::Flat => Built::Refused(Refusal::because(4)),
+        Raised::Faces(m) => write_hull(faces, coords, &table[..m]),
+    }
+}
+
+// Refusals 1, 2, 3, 4, 5. A refusal changes nothing.
+pub fn build(coords: &[i32], faces: &mut [u16]) -> Built
+    ensures answer { λ r. ⌜ r ≡ built (now (coords .entry)) (now (faces .entry)) ⌝ }
+    ensures table { λ r. ⌜ now (faces .exit) ≡ tableAfter r (hullOf (now (coords .entry))) (now (faces .entry)) ⌝ }
+{
+    match touches::check(coords) {
+        Checked::Refused(r) => Built::Refused(r),
+        Checked::Accepted(list) => build_checked(faces, coords, list.count),
+    }
+}

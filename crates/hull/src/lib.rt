@@ -1,0 +1,12 @@
+// Hulls over a touch list: planes, building and placing.
+pub mod build;
+mod doubles;
+mod face;
+mod four_corner;
+pub mod place;
+pub mod planes;
+mod raise;
+mod start;
+mod step;
+mod table;
+mod touch;
