@@ -1,0 +1,45 @@
+-- 01 'Refusal numbers': each answer as numbers, for callers in other languages.
+use Prim.Native.Nat.{ℕ}
+use mathlib.Core.List.{List, [], _∷_, _++_}
+use lib.IntN.{ℤ, pos}
+use lib.Ieee.{Float}
+use Rattle.touches.specs.declared.Point.{Point}
+use Rattle.touches.specs.declared.Refusal.{Refusal}
+use Rattle.records.specs.declared.Numbers.{Numbers}
+use Rattle.hull.specs.Build.{builtRefusal, builtCount, builtVolume}
+use Rattle.hull.specs.Place.{placedRefusal, placedFace}
+use Rattle.hull.specs.declared.build.Built.{Built}
+use Rattle.hull.specs.declared.place.Placed.{Placed}
+use Rattle.hull.specs.declared.place.Placed.the-variants.{Outside, On, Inside, Refused}
+use Rattle.hull.specs.declared.planes.Plane.{Plane}
+
+-- a refusal's number and place
+abbrev pub numbers : Refusal → List ℤ
+numbers r = pos (r .number) ∷ pos (r .place .0) ∷ []
+
+-- building: then face count and volume
+abbrev pub builtNumbers : Built → List ℤ
+builtNumbers a = numbers (builtRefusal a) ++ (pos (builtCount a) ∷ builtVolume a ∷ [])
+
+-- placing: then the kind, 0 refused, 1 outside, 2 on, 3 inside, counted apart from the refusals; and the face
+abbrev pub placedKind : Placed → ℕ
+placedKind (Outside f) = 1
+placedKind (On f) = 2
+placedKind Inside = 3
+placedKind (Refused r) = 0
+
+abbrev pub placedNumbers : Placed → List ℤ
+placedNumbers a = numbers (placedRefusal a) ++ (pos (placedKind a) ∷ pos (placedFace a .0) ∷ [])
+
+abbrev pub planeNumbers : Plane → List Float
+planeNumbers p = p .x ∷ p .y ∷ p .z ∷ p .offset ∷ []
+
+-- a record's numbers: then the count of touches or bytes
+abbrev pub recordNumbers : Numbers → List ℤ
+recordNumbers n = pos (n .number) ∷ pos (n .place .0) ∷ pos (n .count) ∷ []
+
+abbrev pub one : Float → List Float
+one v = v ∷ []
+
+abbrev pub placeAt : ℤ → ℤ → ℤ → Point
+placeAt x y z = record { x = x; y = y; z = z }
