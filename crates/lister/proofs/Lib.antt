@@ -1,0 +1,5 @@
+pub mod FieldLaws
+pub mod FaceLaws
+pub mod BuiltLaws
+pub mod ListingLaws
+pub mod PaperListing
