@@ -1,0 +1,105 @@
+#!/usr/bin/env python3
+"""01's blocks tried by hand, asked of the second program, whole answers compared."""
+
+import sys
+
+sys.dont_write_bytecode = True
+
+import second
+
+T = ((0, 0, 0), (10, 0, 0), (0, 10, 0), (0, 0, 10))
+FOUR = (1, 0, 2, 1, 3, 0, 0, 3, 2, 2, 3, 1)
+SIX = (1, 0, 2, 1, 3, 0, 0, 3, 2, 2, 3, 4, 3, 1, 4, 1, 2, 4)
+FILL = tuple(range(40_000, 40_060))
+
+
+def flat_list(touches):
+    return tuple(number for touch in touches for number in touch)
+
+
+def built(touches, faces, volume):
+    answer = second.build(flat_list(touches), FILL)
+    assert answer == (0, 0, len(faces) // 3, volume, faces + FILL[len(faces) :]), answer
+
+
+def refused(touches, number, at=0, table=FILL):
+    answer = second.build(flat_list(touches), table)
+    assert answer == (number, at, 0, 0, table), answer
+
+
+def placed(place, kind, face):
+    answer = second.place(flat_list(T), FOUR, *place)
+    assert answer == (0, 0, kind, face), answer
+
+
+def blocks():
+    built(T, FOUR, 1000)
+    built((*T, (10, 10, 10)), SIX, 3000)
+    built((*T, (10, 10, 0)), SIX, 2000)
+    built((*T, (20, 0, 0)), SIX, 2000)
+    built((*T, (1, 1, 1)), FOUR, 1000)
+    built((*T, (2, 3, 5)), FOUR, 1000)
+    built(((0, 0, 0), *T), (2, 0, 3, 2, 4, 0, 0, 4, 3, 3, 4, 2), 1000)
+    half = 512
+    built(
+        ((half, half, half), (half, -half, -half), (-half, half, -half), (-half, -half, half)),
+        (0, 1, 2, 0, 3, 1, 1, 3, 2, 2, 3, 0),
+        2147483648,
+    )
+    refused(((30000, 0, 0), (0, 30000, 0), (0, 0, 30000), (10000, 10000, 10000)), 4)
+
+    placed((1, 1, 1), second.INSIDE, 0)
+    placed((2, 3, 5), second.ON, 3)
+    placed((10, 10, 10), second.OUTSIDE, 3)
+
+    refused((*T[:3], (0, 0, 30001)), 3, 3)
+    # With S below the others V is positive, so A and B are P and Q.
+    built((*T[:3], (0, 0, -30000)), (0, 1, 2, 0, 3, 1, 1, 3, 2, 2, 3, 0), 3000000)
+
+    on_a_curve = tuple((i, i * i, i * i * i % 1000) for i in range(65))
+    answer = second.build(flat_list(on_a_curve[:64]), FILL * 10)
+    assert answer[0] == 0 and answer[2] >= 4 and answer[3] > 0, answer
+    refused(on_a_curve, 2)
+    refused(((5, 5, 5),) * 64, 4)
+    refused((), 4)
+
+    refused(T, 5, table=FILL[: 3 * 3])
+    refused(T, 5, table=FILL[: 3 * 3 + 2])
+    assert second.build(flat_list(T), FILL[:12]) == (0, 0, 4, 1000, FOUR)
+
+
+def listing():
+    record = bytes.fromhex(
+        "0019 01 000000000000 000A00000000 0000000A0000 00000000000A"
+    )
+    numbers = tuple(range(50_000, 50_016))
+    answer = second.read(record, numbers)
+    assert answer == (0, 0, 4, flat_list(T) + numbers[12:]), answer
+    _, _, count, volume, table = second.build(answer[3][:12], FILL)
+    lines = [f"hull {count} {volume}"]
+    lines += [" ".join(map(str, face)) for face in second.faces_of(table[: 3 * count])]
+    assert lines == ["hull 4 1000", "1 0 2", "1 3 0", "0 3 2", "2 3 1"], lines
+
+    fill = bytes(range(100, 130))
+    assert second.write(flat_list(T), fill) == (0, 0, 27, record + fill[27:])
+    assert second.copy(record, fill) == (0, 0, 27, record + fill[27:])
+    assert second.write((), fill) == (0, 0, 3, bytes.fromhex("000101") + fill[3:])
+
+
+def volumes():
+    # Equation 4.7 of the chapter.
+    assert second.V((0, 0, 10), (10, 10, 0), (0, 10, 10), (10, 10, 10)) == -1000
+    # 01's minus zero: normal (0, 0, -100), fourth number 0, q = (-5, -5, 0).
+    answer = second.plane_of_face(flat_list(T), 1, 0, 2)
+    assert list(map(str, answer)) == ["0", "0", "0.0", "0.0", "-100.0", "0.0"], answer
+    answer = second.plane_reading(flat_list(T), 1, 0, 2, -5, -5, 0)
+    assert list(map(str, answer)) == ["0", "0", "0.0"], answer
+    answer = second.plane_reading(flat_list(T), 1, 0, 2, 1, 2, -30000)
+    assert answer == (0, 0, 3000000.0), answer
+
+
+if __name__ == "__main__":
+    blocks()
+    listing()
+    volumes()
+    print("01's blocks: as the paper says")
