@@ -1,44 +1,31 @@
 -- Building: what the hull of a checked list has, and the answer by its cases.
-use mathlib.Core.Path.{_≡_, refl, sym, ap, _∙_}
+use mathlib.Core.Path.{_≡_, sym, ap, _∙_}
 use mathlib.Core.Bool.{Bool}
-use mathlib.Core.List.{List}
-use mathlib.Core.Option.{Option, none, some}
-use Prim.Native.Nat.{ℕ, _<_, _≤_}
+use mathlib.Core.List.{List, [], _∷_}
+use mathlib.Core.Option.{some}
+use Prim.Native.Nat.{ℕ, zero, suc, _+_, _<_, _≤_}
 use native.Mathlib.Omega.{arith}
 use borrow.Author.Tests.{le-leb, lt-leb}
-use lib.Dec.{leb}
+use lib.Dec.{T, leb, leb→le}
 use lib.IntN.{ℤ}
-use lib.ListN.{length, take}
+use lib.ListN.{length, take, getD}
+use lib.Seq.{getD-take}
+use Rattle.laws.specs.Lists.{every}
+use Rattle.laws.proofs.Tests.{and-both}
 use Rattle.touches.specs.declared.Refusal.{Refusal}
 use Rattle.touches.specs.Limits.{mostFaces}
 use Rattle.touches.specs.Touches.{touch, touchCount, refusal, Sound}
 use Rattle.touches.specs.Check.{pick}
 use Rattle.rules.specs.Faces.{Face, Places}
 use Rattle.rules.specs.Building.{volume}
-use Rattle.rules.proofs.AfterLaws.{hull-built}
+use Rattle.rules.specs.Start.{Start as Four}
+use Rattle.rules.proofs.AfterLaws.{hull-built, hull-some}
 use Rattle.rules.proofs.Theorems.{start-order, hull-surface, most-faces, accepted-few}
 use Rattle.hull.specs.Build.{hullOf, builtFrom}
-use Rattle.hull.specs.Inner.{Ready, RaisedTo}
-use Rattle.hull.specs.declared.raise.Raised.the-variants.{Flat, Faces}
+use Rattle.hull.specs.Marks.{Fresh}
+use Rattle.hull.specs.Whole.{planeOn, Planed}
+use Rattle.hull.specs.Inner.{Ready, Begun, Taken}
 use Rattle.hull.specs.declared.build.Built.the-variants.{Hull, Refused}
-
--- ---- what `raise` gave
-pub raised-none : (o : Option (List Face)) (table : List Face) → RaisedTo o Flat table → o ≡ none
-raised-none none table r = refl
-raised-none (some h) table r = let q : Flat ≡ Faces (length h) = r .0 in let z : _≡_ {A = ℕ} 0 1 = cc in absurd (omega arith)
-
--- the first m faces of the table are the hull
-pub record Front (o : Option (List Face)) (m : ℕ) (table : List Face) : Type 0 where
-  pub hull : o ≡ some (take m table)
-  pub count : m ≡ length (take m table)
-
-pub raised-some : (o : Option (List Face)) {m : ℕ} {table : List Face} → RaisedTo o (Faces m) table → Front o m table
-raised-some none {m} r = let z : _≡_ {A = ℕ} 0 1 = cc in absurd (omega arith)
-raised-some (some h) {m} {table} r =
-    let q : Faces m ≡ Faces (length h) = r .0 in
-    let e : m ≡ length h = cc in
-    let g : take m table ≡ h = ap (λ (j : ℕ). take j table) e ∙ r .1 in
-    record { hull = ap some (sym g); count = e ∙ ap length (sym g) }
 
 -- ---- the hull of a list that passed refusals 1 to 3
 module _ {cs : List ℤ} (d : Sound cs) {h : List Face} (e : hullOf cs ≡ some h) where
@@ -62,3 +49,32 @@ module _ (p : Places) (n : ℕ) (h : List Face) where
 
   pub given : length h ≤ n → {v : ℤ} → v ≡ volume p h → Hull (length h) v ≡ builtFrom p n (some h)
   given l e = ap (Hull (length h)) e ∙ by-room (le-leb (length h) n l)
+
+-- ---- the faces at the front of a table after the last touch
+module _ {cs : List ℤ} {s : Four} (b : Begun cs s) {n m : ℕ} {table : List Face} {planes : List (List ℤ)} (c : n ≡ touchCount cs) (t : Taken cs s n m table planes) where
+  pub front-hull : hullOf cs ≡ some (take m table)
+  front-hull = hull-some (touch cs) (touchCount cs) (b .begins) ∙ ap some (sym (rw c at (t .faces)))
+
+  pub front-count : m ≡ length (take m table)
+  front-count = t .count ∙ ap length (sym (t .faces))
+
+  pub front-ready : Ready cs (take m table) 0
+  front-ready = hull-ready (b .sound) front-hull
+
+  pub front-few : length (take m table) ≤ mostFaces
+  front-few = hull-few (b .sound) front-hull
+
+  pub front-long : {k : ℕ} → m < k → length (take m table) ≤ k
+  front-long h = omega (arith, front-count)
+
+  pub front-planed : Planed cs (length (take m table)) (take m table) planes
+  front-planed = record { each = λ j l. let h : j < m = omega (arith, front-count) in record { is = t .planed .each j h .is ∙ ap (planeOn (touch cs)) (sym (getD-take m table j [] h)) } }
+
+-- marks that are all 1
+pub fresh-ones : (marks : List ℕ) → T (every (λ x. leb x 1) marks) → Fresh 0 marks
+fresh-ones marks h = record { old = go marks h }
+  where
+    go : (l : List ℕ) → T (every (λ x. leb x 1) l) → (j : ℕ) → getD l j 0 ≤ 0 + 1
+    go [] h j = omega arith
+    go (x ∷ l) h zero = leb→le x 1 (and-both (leb x 1) (every (λ y. leb y 1) l) h .0)
+    go (x ∷ l) h (suc j) = go l (and-both (leb x 1) (every (λ y. leb y 1) l) h .1) j

@@ -1,18 +1,21 @@
 -- The cone over the border of the visible faces, a side and a face at a time.
-use mathlib.Core.Path.{_≡_, refl, sym, ap, _∙_}
-use mathlib.Core.Bool.{Bool, true, false}
+use mathlib.Core.Path.{_≡_, refl, ap, _∙_}
+use mathlib.Core.Bool.{Bool, true, false, not}
 use mathlib.Core.List.{List, [], _∷_, _++_, map}
 use Prim.Native.Nat.{ℕ, _+_, _<_, _≤_}
 use native.Mathlib.Numerals.{add-one}
-use native.Mathlib.Omega.{arith}
-use lib.ListN.{length, take, drop, getD, length-append, take-append-drop}
+use lib.ListN.{length, take, getD}
 use lib.Seq.{take-suc, take-all}
-use Rattle.laws.specs.Lists.{onlyIf, put, keep, Laid}
-use Rattle.laws.proofs.Members.{keep-append}
-use Rattle.laws.proofs.Tables.{laid-then}
-use Rattle.rules.specs.Faces.{Face, Side, side, corner, sidesOf, sides, border}
+use Rattle.laws.specs.Lists.{In, onlyIf, put, keep, has}
+use Rattle.laws.proofs.Members.{keep-append, keep-ext}
+use Rattle.rules.specs.Faces.{Face, Side, side, corner, reversed, sameSide, sidesOf, sides, border}
 use Rattle.rules.specs.Building.{cone}
-use Rattle.hull.specs.Inner.{bare, coneSide, coneOn}
+use Rattle.rules.specs.Demands.{CornersIn}
+use Rattle.rules.proofs.SideLaws.{in-sides}
+use Rattle.rules.proofs.FaceLaws.{side-corners}
+use Rattle.hull.specs.Marks.{MarkTable, Marked, unmarked}
+use Rattle.hull.specs.Inner.{Poured, coneSide, coneOn}
+use Rattle.hull.proofs.PourLaws.{pour-then}
 
 -- the three sides of a face
 abbrev pub ab : Face → Side
@@ -32,19 +35,19 @@ sides-append : (l m : List Face) → sides (l ++ m) ≡ sides l ++ sides m
 sides-append [] m = refl
 sides-append (f ∷ l) m = ap (λ (t : List Side). sidesOf f ++ t) (sides-append l m)
 
-module _ (v : List Face) (k : ℕ) where
-  pub cone-none : coneOn v k [] ≡ []
+module _ (t : Side → Bool) (k : ℕ) where
+  pub cone-none : coneOn t k [] ≡ []
   unfolding coneOn
   cone-none = refl
 
-  cone-append : (l m : List Face) → coneOn v k (l ++ m) ≡ coneOn v k l ++ coneOn v k m
+  cone-append : (l m : List Face) → coneOn t k (l ++ m) ≡ coneOn t k l ++ coneOn t k m
   unfolding coneOn
-  cone-append l m = ap (λ (t : List Side). map (cone k) (keep (bare v) t)) (sides-append l m) ∙ ap (map (cone k)) (keep-append (bare v) (sides l) (sides m)) ∙ map-append (cone k) (keep (bare v) (sides l)) (keep (bare v) (sides m))
+  cone-append l m = ap (λ (s : List Side). map (cone k) (keep t s)) (sides-append l m) ∙ ap (map (cone k)) (keep-append t (sides l) (sides m)) ∙ map-append (cone k) (keep t (sides l)) (keep t (sides m))
 
   -- the three sides of one face
-  pub cone-face : (f : Face) → coneOn v k (f ∷ []) ≡ coneSide v k (ab f) ++ coneSide v k (bc f) ++ coneSide v k (ca f)
+  cone-face : (f : Face) → coneOn t k (f ∷ []) ≡ coneSide t k (ab f) ++ coneSide t k (bc f) ++ coneSide t k (ca f)
   unfolding coneOn
-  cone-face f = go (bare v (ab f)) (bare v (bc f)) (bare v (ca f))
+  cone-face f = go (t (ab f)) (t (bc f)) (t (ca f))
     where
       go : (x y z : Bool) → map (cone k) (put x (ab f) (put y (bc f) (put z (ca f) []))) ≡ onlyIf x (cone k (ab f)) ++ onlyIf y (cone k (bc f)) ++ onlyIf z (cone k (ca f))
       go true true true = refl
@@ -56,26 +59,20 @@ module _ (v : List Face) (k : ℕ) where
       go false false true = refl
       go false false false = refl
 
-  pub cone-more : (w : List Face) (i : ℕ) → i < length w → coneOn v k (take (i + 1) w) ≡ coneOn v k (take i w) ++ coneOn v k (getD w i [] ∷ [])
+  pub cone-more : (w : List Face) (i : ℕ) → i < length w → coneOn t k (take (i + 1) w) ≡ coneOn t k (take i w) ++ coneOn t k (getD w i [] ∷ [])
   cone-more w i h = rw (add-one, take-suc w i [], cone-append (take i w) (getD w i [] ∷ []))
 
-  -- the cone over the first faces and the next is no more than the whole
-  pub cone-bound : (i : ℕ) → i < length v → length (coneOn v k (take i v)) + length (coneOn v k (getD v i [] ∷ [])) ≤ length (map (cone k) (border v))
+  -- the three sides poured one after the other
+  pub face-poured : (f : Face) {at one two r : ℕ} {old first second last : List Face}
+      → Poured at (coneSide t k (ab f)) old one first → length first ≡ length old
+      → Poured one (coneSide t k (bc f)) first two second → length second ≡ length old
+      → Poured two (coneSide t k (ca f)) second r last → Poured at (coneOn t k (f ∷ [])) old r last
+  face-poured f x l y m z = rw (cone-face f) (pour-then (pour-then x l y) m z)
+
+-- the sides of v whose reverse has no mark are its border
+module _ {v : List Face} {marks : List ℕ} {w k : ℕ} (m : Marked w k v marks) (c : (f : Face) → In f v → CornersIn (λ t. t < w) f) where
+  pub cone-all : (i : ℕ) → length v ≤ i → coneOn (unmarked marks w k) k (take i v) ≡ map (cone k) (border v)
   unfolding coneOn
-  cone-bound i h =
-      let e : coneOn v k v ≡ coneOn v k (take (i + 1) v) ++ coneOn v k (drop (i + 1) v) = ap (coneOn v k) (sym (take-append-drop (i + 1) v)) ∙ cone-append (take (i + 1) v) (drop (i + 1) v) in
-      rw (e, cone-more v i h) (simp length-append (omega arith))
-
-  pub cone-all : (i : ℕ) → length v ≤ i → coneOn v k (take i v) ≡ map (cone k) (border v)
-  unfolding coneOn
-  cone-all i h = rw (take-all i v h)
-
-  module _ (f : Face) where
-    pub cone-long : length (coneOn v k (f ∷ [])) ≡ length (coneSide v k (ab f)) + length (coneSide v k (bc f)) + length (coneSide v k (ca f))
-    cone-long = rw (cone-face f) (simp length-append)
-
-    -- the three sides laid one after the other
-    pub face-laid : {at one two r : ℕ} {old first second last : List Face} → at ≤ length old
-        → Laid at (coneSide v k (ab f)) old one first → Laid one (coneSide v k (bc f)) first two second → Laid two (coneSide v k (ca f)) second r last
-        → Laid at (coneOn v k (f ∷ [])) old r last
-    face-laid h x y z = rw (cone-face f) (laid-then (laid-then x h y) h z)
+  cone-all i h =
+      rw (take-all i v h) (ap (map (cone k)) (keep-ext (unmarked marks w k) (λ s. not (has sameSide (reversed s) (sides v))) (sides v)
+      (λ s j. let f = in-sides v j in let e = side-corners (c (f .0) (f .1)) s (f .2) in ap not (m .test (s .to) (s .from) (e .1) (e .0)))))

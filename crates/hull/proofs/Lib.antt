@@ -1,6 +1,8 @@
 pub mod NumberLaws
-pub mod SearchLaws
+pub mod WholeLaws
+pub mod MarkLaws
 pub mod PartLaws
+pub mod PourLaws
 pub mod ConeLaws
 pub mod StepLaws
 pub mod StartLaws

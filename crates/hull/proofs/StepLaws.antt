@@ -1,30 +1,55 @@
 -- A whole step: the faces that stay, and the cone after them.
-use mathlib.Core.List.{List, map}
-use Prim.Native.Nat.{ℕ, _+_, _≤_}
+use mathlib.Core.Bool.{not}
+use mathlib.Core.List.{List, [], map}
+use Prim.Native.Nat.{ℕ, _<_, _≤_}
 use native.Mathlib.Omega.{arith}
-use mathlib.Core.Path.{_≡_}
+use mathlib.Core.Path.{_≡_, sym, ap, subst, _∙_}
 use lib.IntN.{ℤ}
-use lib.ListN.{length, take, length-append}
-use Rattle.laws.specs.Lists.{Laid}
-use Rattle.laws.proofs.Members.{length-keep}
-use Rattle.laws.proofs.Tables.{laid-then, laid-first}
-use Rattle.touches.specs.Touches.{touch}
+use lib.ListN.{length, take, getD}
+use lib.Seq.{getD-take}
+use Rattle.laws.specs.Lists.{In, Laid}
+use Rattle.laws.proofs.Members.{in-keep, length-keep, getD-in}
+use Rattle.laws.proofs.Tables.{laid-before, laid-first}
+use Rattle.touches.specs.Touches.{touch, touchCount}
 use Rattle.rules.specs.Faces.{Face, visible, border}
-use Rattle.rules.specs.Building.{cone, seen, step}
-use Rattle.hull.specs.Inner.{PartOf}
+use Rattle.rules.specs.Building.{cone, seen, unseen, step}
+use Rattle.rules.specs.Demands.{CornersIn}
+use Rattle.rules.proofs.FaceLaws.{corners-map}
+use Rattle.rules.proofs.StepLaws.{step-corners}
+use Rattle.hull.specs.Marks.{MarkTable}
+use Rattle.hull.specs.Whole.{planeOn, Planed}
+use Rattle.hull.specs.Inner.{FaceOf, Ready, PartOf, Poured}
+use Rattle.hull.proofs.PourLaws.{pour-laid, pour-then}
 
-module _ {cs : List ℤ} {h : List Face} {k m s : ℕ} {old mid blank front : List Face} (q : PartOf cs h k old blank m mid s front) where
+module _ {cs : List ℤ} {h : List Face} {k m s : ℕ} {old mid front : List Face} (q : PartOf cs h k old m mid s front) where
   pub front-few : s ≤ length h
   unfolding seen
-  front-few = omega (arith, q .gone .next, length-keep (visible (touch cs) k) h)
+  front-few = omega (arith, q .count, length-keep (visible (touch cs) k) h)
+
+  pub kept-few : m ≤ length h
+  unfolding unseen
+  kept-few = omega (arith, q .stay .next, length-keep (λ f. not (visible (touch cs) k f)) h)
 
   pub front-count : s ≡ length (take s front)
-  front-count = rw (laid-first (q .gone)) (omega (arith, q .gone .next))
+  front-count = q .count ∙ ap length (sym (q .gone))
 
-  pub step-room : length (step (touch cs) h k) ≤ length old → length mid ≡ length old → m + length (map (cone k) (border (take s front))) ≤ length mid
-  unfolding step
-  step-room r e = rw (laid-first (q .gone)) (omega (arith, q .stay .next, simp length-append at r))
+  -- the visible faces are over the touches
+  pub front-faces : {w : ℕ} → touchCount cs ≤ w → Ready cs h k → (f : Face) → In f (take s front) → CornersIn (λ t. t < w) f
+  unfolding seen
+  front-faces l r f i = corners-map (λ t b. omega (arith, b)) (r .faces f (in-keep (visible (touch cs) k) h (subst (In f) (q .gone) i) .0))
 
-  pub step-laid : {r : ℕ} {after : List Face} → Laid m (map (cone k) (border (take s front))) mid r after → Laid 0 (step (touch cs) h k) old r after
+  pub step-poured : {r : ℕ} {after : List Face} → m ≤ length old → length mid ≡ length old → Poured m (map (cone k) (border (take s front))) mid r after → Poured 0 (step (touch cs) h k) old r after
   unfolding step
-  step-laid c = laid-then (q .stay) (omega arith) (rw (laid-first (q .gone)) at c)
+  step-poured b e c = pour-then (pour-laid (q .stay) b) e (rw (q .gone) at c)
+
+-- the faces of a step are over the touches
+pub step-faces : {cs : List ℤ} {h : List Face} {k r : ℕ} {old after : List Face} → Ready cs h k → Laid 0 (step (touch cs) h k) old r after → (j : ℕ) → j < r → FaceOf cs (getD after j [])
+step-faces {cs} {h} {k} {r} {old} {after} d g j l =
+    rw (← getD-take r after j [] l, laid-first g) (step-corners (touch cs) h k (d .faces) (d .touch) (getD (step (touch cs) h k) j []) (getD-in (step (touch cs) h k) j [] (omega (arith, g .next))))
+
+-- the planes of the faces before the place that was laid at are theirs still
+pub planed-before : {cs : List ℤ} {m r : ℕ} {new mid after : List Face} {planes : List (List ℤ)} → Planed cs m mid planes → Laid m new mid r after → m ≤ length mid → Planed cs m after planes
+planed-before {cs} p g b = record { each = λ j l. record { is = p .each j l .is ∙ ap (planeOn (touch cs)) (sym (laid-before g b j [] l)) } }
+
+pub marks-kept : {w : ℕ} {marks after : List ℕ} → MarkTable w marks → length after ≡ length marks → MarkTable w after
+marks-kept t e = record { few = t .few; room = omega (arith, t .room, e) }

@@ -1,27 +1,32 @@
 -- What the inner steps of building and placing take for granted, and what they leave.
 use mathlib.Core.Path.{_≡_}
-use mathlib.Core.Bool.{Bool, not}
+use mathlib.Core.Bool.{Bool}
 use mathlib.Core.List.{List, map}
-use mathlib.Core.Option.{Option, none, some}
-use Prim.Native.Nat.{ℕ, _<_}
+use mathlib.Core.Option.{some}
+use Prim.Native.Nat.{ℕ, _+_, _<_, _≤_}
 use lib.IntN.{ℤ, pos}
 use lib.Signed.{ltZ}
 use lib.ListN.{length, take}
-use Rattle.laws.specs.Lists.{In, onlyIf, keep, has, Laid}
+use Rattle.laws.specs.Lists.{In, onlyIf, keep, Laid}
 use Rattle.touches.specs.declared.Point.{Point}
 use Rattle.touches.specs.declared.FaceNo.{FaceNo}
+use Rattle.touches.specs.Limits.{mostFaces}
 use Rattle.touches.specs.Touches.{touchCount, touch, Sound}
 use Rattle.touches.specs.Check.{pick}
-use Rattle.rules.specs.Faces.{Face, Side, faceVol, reversed, sameSide, sides}
+use Rattle.rules.specs.Faces.{Face, Side, faceVol, sides}
 use Rattle.rules.specs.Start.{Start, start}
 use Rattle.rules.specs.Building.{cone, seen, unseen, after, others}
 use Rattle.rules.specs.Demands.{CornersIn}
-use Rattle.hull.specs.declared.raise.Raised.{Raised}
-use Rattle.hull.specs.declared.raise.Raised.the-variants.{Flat, Faces}
+use Rattle.hull.specs.Marks.{MarkTable}
+use Rattle.hull.specs.Whole.{Planed}
 use Rattle.hull.specs.declared.place.First.{First}
 use Rattle.hull.specs.declared.place.First.the-variants.{Nowhere, At}
 use Rattle.hull.specs.declared.place.Placed.{Placed}
 use Rattle.hull.specs.declared.place.Placed.the-variants.{Outside, On, Inside}
+
+-- how many touches the smallest tables are for
+abbrev pub fewTouches : ℕ
+fewTouches = 8
 
 -- a face over the touches cs
 abbrev pub FaceOf : List ℤ → Face → Type 0
@@ -37,37 +42,49 @@ pub record Ready (cs : List ℤ) (h : List Face) (k : ℕ) : Type 0 where
   pub faces : (f : Face) → In f h → FaceOf cs f
   pub touch : k < touchCount cs
 
--- the faces h parted: the first m of the table kept, over old, are those not visible from k, and the first s of the table front, over blank, the others
-pub record PartOf (cs : List ℤ) (h : List Face) (k : ℕ) (old blank : List Face) (m : ℕ) (kept : List Face) (s : ℕ) (front : List Face) : Type 0 where
+-- the faces h parted: the first m of the table kept, over old, are those not visible from k, and the first s of the table front the others
+pub record PartOf (cs : List ℤ) (h : List Face) (k : ℕ) (old : List Face) (m : ℕ) (kept : List Face) (s : ℕ) (front : List Face) : Type 0 where
   pub stay : Laid 0 (unseen (touch cs) h k) old m kept
-  pub gone : Laid 0 (seen (touch cs) h k) blank s front
+  pub gone : take s front ≡ seen (touch cs) h k
+  pub count : s ≡ length (seen (touch cs) h k)
 
--- no face of v has the side s turned round
-abbrev pub bare : List Face → Side → Bool
-bare v s = not (has sameSide (reversed s) (sides v))
+-- the cone from k over side s, if it passes the test t
+abbrev pub coneSide : (Side → Bool) → ℕ → Side → List Face
+coneSide t k s = onlyIf (t s) (cone k s)
 
--- the cone from k over one side of the faces v
-abbrev pub coneSide : List Face → ℕ → Side → List Face
-coneSide v k s = onlyIf (bare v s) (cone k s)
+-- the cone over those sides of the faces w that pass
+unfoldable pub coneOn : (Side → Bool) → ℕ → List Face → List Face
+coneOn t k w = map (cone k) (keep t (sides w))
 
--- the cone over those sides of v that are sides of w
-unfoldable pub coneOn : List Face → ℕ → List Face → List Face
-coneOn v k w = map (cone k) (keep (bare v) (sides w))
+-- what a call did that laid new into the table old from place at on while there was room: r is the next free place, or the table's length where it is full
+pub record Poured {A : Type 0} (at : ℕ) (new old : List A) (r : ℕ) (after : List A) : Type 0 where
+  pub most : r ≤ length old
+  pub fits : at + length new < length old → r ≡ at + length new
+  pub laid : r < length old → Laid at new old r after
 
 -- the start of coordinates that passed refusals 1 to 3
 pub record Begun (cs : List ℤ) (s : Start) : Type 0 where
   pub sound : Sound cs
   pub begins : start (touch cs) (touchCount cs) ≡ some s
 
--- the first m faces of a table are those after the start s and the other touches below k
-pub record Taken (cs : List ℤ) (s : Start) (k m : ℕ) (table : List Face) : Type 0 where
+-- the first m faces of a table are those after the start s and the other touches below k, and have their planes
+pub record Taken (cs : List ℤ) (s : Start) (k m : ℕ) (table : List Face) (planes : List (List ℤ)) : Type 0 where
   pub count : m ≡ length (after (touch cs) s (others s k))
   pub faces : take m table ≡ after (touch cs) s (others s k)
+  pub planed : Planed cs m table planes
 
--- what is given for the hull: flat where there is none, else its face count, and its faces at the front of the table
-abbrev pub RaisedTo : Option (List Face) → Raised → List Face → Type 0
-RaisedTo none r table = r ≡ Flat
-RaisedTo (some h) r table = (r ≡ Faces (length h)) × (take (length h) table ≡ h)
+-- the same while there was room: where m is the table's length it is of no use, which cannot be where every hull has room
+pub record Held (cs : List ℤ) (s : Start) (k m : ℕ) (table : List Face) (planes : List (List ℤ)) : Type 0 where
+  pub most : m ≤ length table
+  pub taken : m < length table → Taken cs s k m table planes
+  pub room : mostFaces < length table → m < length table
+
+-- tables to build in for the touches cs: one length for all but the marks
+pub record Tables (cs : List ℤ) (w : ℕ) (table : List Face) (planes : List (List ℤ)) (seen : List Face) (marks : List ℕ) : Type 0 where
+  pub planes-long : length planes ≡ length table
+  pub seen-long : length seen ≡ length table
+  pub mark-table : MarkTable w marks
+  pub touches : touchCount cs ≤ w
 
 -- the first face of a kind once f is looked at, b saying whether it is one
 abbrev pub earlier : First → FaceNo → Bool → First

@@ -1,4 +1,6 @@
 pub mod Sizes
+pub mod Whole
+pub mod Marks
 pub mod Table
 pub mod Inner
 pub mod Start

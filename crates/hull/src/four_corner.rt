@@ -35,7 +35,7 @@ fn cross(u: Point, v: Point) -> Point
     }
 }
 
-fn dot(u: Point, v: Point) -> i64
+pub(crate) fn dot(u: Point, v: Point) -> i64
     requires { ⌜ Small mostPart u × Small mostGap v ⌝ }
     ensures { λ r. ⌜ Number mostDot (dot u v) r ⌝ }
 {
@@ -43,7 +43,7 @@ fn dot(u: Point, v: Point) -> i64
 }
 
 // The normal of face (a, b, c), in whole numbers.
-fn normal(a: Point, b: Point, c: Point) -> Point
+pub(crate) fn normal(a: Point, b: Point, c: Point) -> Point
     requires { ⌜ Near a × Near b × Near c ⌝ }
     ensures { λ r. ⌜ Vector mostPart (normal a b c) r ⌝ }
 {

@@ -1,4 +1,5 @@
 // Hulls over a touch list: planes, building and placing.
+mod border;
 pub mod build;
 mod doubles;
 mod face;
@@ -10,3 +11,4 @@ mod start;
 mod step;
 mod table;
 mod touch;
+mod whole;

@@ -1,12 +1,12 @@
 -- A list laid into a table, and the elements that pass a test laid there one after another.
-use mathlib.Core.Path.{_≡_, refl, sym, ap, _∙_}
+use mathlib.Core.Path.{_≡_, refl, sym, ap, ap₂, _∙_}
 use mathlib.Core.Bool.{Bool, true, false}
 use mathlib.Core.List.{List, [], _∷_, _++_, append-assoc, append-nil}
-use Prim.Native.Nat.{ℕ, suc, _+_, _-_, _<_, _≤_}
+use Prim.Native.Nat.{ℕ, zero, suc, _+_, _-_, _<_, _≤_}
 use native.Mathlib.Numerals.{add-one}
 use native.Mathlib.Omega.{arith}
-use lib.ListN.{length, take, drop, getD, set, length-append, length-take, length-drop, take-append-drop}
-use lib.Seq.{sets, sets-eq, take-suc, set-split, append-snoc, length-take-le, take-at, drop-at, getD-drop, getD-append-add, take-append-seam, drop-drop}
+use lib.ListN.{List·getD-append, length, take, drop, getD, set, length-append, length-take, length-drop, take-append-drop}
+use lib.Seq.{sets, sets-eq, take-suc, set-split, append-snoc, length-take-le, take-at, drop-at, getD-drop, getD-append-add, getD-take, take-append-seam, drop-drop}
 use Rattle.laws.specs.Lists.{put, onlyIf, keep, lay, Laid}
 use Rattle.laws.proofs.Members.{keep-append, length-keep}
 
@@ -59,8 +59,29 @@ module _ {A : Type 0} {at r : ℕ} {new old after : List A} (h : Laid at new old
     table = g .table ∙ rw (h .next, h .table, lay-lay at new more old b);
   }
 
+  -- the table up to the next free place
+  pub laid-take : at ≤ length old → take r after ≡ take at old ++ new
+  unfolding lay
+  laid-take b =
+      let e : length (take at old ++ new) ≡ at + length new = simp length-append (omega (arith, length-take-le at old b)) in
+      rw (h .table, h .next, take-at (take at old ++ new) (drop (at + length new) old) (at + length new) e)
+
+  -- before the place the table is as it was
+  pub laid-before : at ≤ length old → (i : ℕ) (d : A) → i < at → getD after i d ≡ getD old i d
+  laid-before b i d l =
+      let e : length (take at old) ≡ at = length-take-le at old b in
+      sym (getD-take r after i d (omega (arith, h .next))) ∙ ap (λ (t : List A). getD t i d) (laid-take b) ∙ List·getD-append (take at old) new d i (omega (arith, e)) ∙ getD-take at old i d l
+
 pub laid-none : {A : Type 0} (at : ℕ) (old : List A) → Laid at [] old at old
 laid-none at old = record { next = omega arith; table = sym (lay-none at old) }
+
+-- the first elements of a table are laid in it
+pub laid-prefix : {A : Type 0} (i : ℕ) (l : List A) → i ≤ length l → Laid 0 (take i l) l i l
+unfolding lay
+laid-prefix i l h =
+    let e : length (take i l) ≡ i = length-take-le i l h in
+    let z : 0 + i ≡ i = omega arith in
+    record { next = omega (arith, e); table = rw (e, z) (sym (take-append-drop i l)) }
 
 pub laid-one : {A : Type 0} (at : ℕ) (a : A) (old : List A) → at < length old → Laid at (a ∷ []) old (at + 1) (set old at a)
 laid-one at a old h = record { next = refl; table = sym (lay-one at a old h) }
@@ -92,6 +113,20 @@ module _ {A : Type 0} (t : A → Bool) where
   -- those of the first i + 1 elements
   pub keep-more : (l : List A) (i : ℕ) (d : A) → i < length l → keep t (take (i + 1) l) ≡ keep t (take i l) ++ onlyIf (t (getD l i d)) (getD l i d)
   keep-more l i d h = rw (add-one, take-suc l i d, keep-append t (take i l) (getD l i d ∷ []))
+
+  module _ (l : List A) (d : A) where
+    -- the first i elements, where all of them pass, and where none does
+    pub keep-first : (i : ℕ) → i ≤ length l → ((j : ℕ) → j < i → t (getD l j d) ≡ true) → keep t (take i l) ≡ take i l
+    keep-first zero h g = refl
+    keep-first (suc i) h g =
+        let e : suc i ≡ i + 1 = omega arith in
+        rw e (keep-more l i d (omega arith) ∙ ap₂ (λ (k : List A) (b : Bool). k ++ onlyIf b (getD l i d)) (keep-first i (omega arith) (λ j k. g j (omega arith))) (g i (omega arith)) ∙ sym (rw (add-one) (take-suc l i d (omega arith))))
+
+    pub keep-no-first : (i : ℕ) → i ≤ length l → ((j : ℕ) → j < i → t (getD l j d) ≡ false) → keep t (take i l) ≡ []
+    keep-no-first zero h g = refl
+    keep-no-first (suc i) h g =
+        let e : suc i ≡ i + 1 = omega arith in
+        rw e (keep-more l i d (omega arith) ∙ ap₂ (λ (k : List A) (b : Bool). k ++ onlyIf b (getD l i d)) (keep-no-first i (omega arith) (λ j k. g j (omega arith))) (g i (omega arith)))
 
 module _ {A : Type 0} where
   pub length-only : (b : Bool) (a : A) → length (onlyIf b a) ≤ 1

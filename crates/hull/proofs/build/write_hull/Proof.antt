@@ -29,8 +29,8 @@ six-volume-requires c κs = search needs
 put-faces-requires : tie.Need-put-faces-requires
 put-faces-requires c κs = omega (arith, c .before .before .if1 .left, c .before .before .before .room .ensures)
 
-cast-t14 : tie.Need-cast-t14
-cast-t14 c = search needs
+cast-t15 : tie.Need-cast-t15
+cast-t15 c = search needs
 
 same-length-2 : tie.Need-same-length-2
 same-length-2 c = search needs
@@ -54,6 +54,6 @@ write-hull-spec =
     returns
     six-volume-requires
     put-faces-requires
-    cast-t14
+    cast-t15
     same-length-2
     returns-2)

@@ -1,24 +1,25 @@
--- The loop's invariant: the cone over the sides of the first i visible faces is laid.
+-- The loop's invariant: the cone over the sides of the first i visible faces is poured.
 use borrow.Author.Needs.{needs}
 use mathlib.Core.Path.{_≡_, refl, _∙_}
+use mathlib.Core.List.{[]}
 use Prim.Native.Nat.{_≤_, _-_}
-use native.Mathlib.Omega.{arith}
-use lib.ListN.{length, take}
-use Rattle.laws.specs.Lists.{Laid}
-use Rattle.laws.proofs.Tables.{laid-none, laid-then}
-use Rattle.hull.specs.Inner.{coneOn}
-use Rattle.hull.proofs.ConeLaws.{cone-none, cone-more, cone-bound, cone-all}
+use lib.ListN.{length, take, getD}
+use Rattle.laws.proofs.Members.{getD-in}
+use Rattle.hull.specs.Inner.{Poured, coneOn}
+use Rattle.hull.specs.Marks.{unmarked}
+use Rattle.hull.proofs.PourLaws.{pour-none, pour-then}
+use Rattle.hull.proofs.ConeLaws.{cone-none, cone-more, cone-all}
 use Rattle.hull.proofs.step.add_cone.Statement.{statement}
 use Rattle.hull.proofs.step.add_cone.Tie as tie
 
 abbrev Inv-loop : tie.InvT-loop
-Inv-loop table₀ start seen k at₀ i₀ table at i = (i ≤ length seen) × (length table ≡ length table₀) × Laid start (coneOn seen (k .0) (take i seen)) table₀ at table
+Inv-loop table₀ start seen marks w k at₀ i₀ table at i = (i ≤ length seen) × (length table ≡ length table₀) × Poured start (coneOn (unmarked marks w (k .0)) (k .0) (take i seen)) table₀ at table
 
 abbrev μ-loop : tie.MeasureT-loop
-μ-loop table₀ start seen k at₀ i₀ table at i = length seen - i
+μ-loop table₀ start seen marks w k at₀ i₀ table at i = length seen - i
 
 loop-holds : tie.Need-loop-holds Inv-loop μ-loop
-loop-holds c = (search needs, refl, rw (cone-none _ _) (laid-none _ _))
+loop-holds c = (search needs, refl, rw (cone-none _ _) (pour-none _ _ (c .before .pre .4)))
 
 mul-add-sides : tie.Need-mul-add-sides Inv-loop μ-loop
 mul-add-sides c = search needs
@@ -29,8 +30,9 @@ shared-slice-copy-out-add-sides c = search needs
 add-sides-requires : tie.Need-add-sides-requires Inv-loop μ-loop
 add-sides-requires c κs =
     let l = c .before .before .before .loop in
-    let s = c .before .before .before .before in
-    omega (arith, l .inv .2 .next, cone-bound (s .args .seen .now) (s .args .k .0) (l .i) (search needs), s .pre)
+    let s = c .before .before .before .before .before in
+    let h = s .pre in
+    (h .0, h .2 (getD (s .args .seen .now) (l .i) []) (getD-in (s .args .seen .now) (l .i) [] (search needs)), h .3, search needs)
 
 add-i : tie.Need-add-i Inv-loop μ-loop
 add-i c = search needs
@@ -41,12 +43,11 @@ loop-less c = search needs
 loop-again : tie.Need-loop-again Inv-loop μ-loop
 loop-again c =
     let l = c .before .before .before .before .before .loop in
-    let s = c .before .before .before .before .before .before in
-    let a = s .args in
+    let a = c .before .before .before .before .before .before .before .args in
     let q = c .before .add-sides in (
       search needs,
       q .kept .0 ∙ l .inv .1,
-      rw (cone-more (a .seen .now) (a .k .0) (a .seen .now) (l .i) (search needs)) (laid-then (l .inv .2) (omega (arith, s .pre)) (q .ensures)),
+      rw (cone-more (unmarked (a .marks .now) (a .w) (a .k .0)) (a .k .0) (a .seen .now) (l .i) (search needs)) (pour-then (l .inv .2) (l .inv .1) (q .ensures)),
     )
 
 same-length : tie.Need-same-length Inv-loop μ-loop
@@ -55,8 +56,8 @@ same-length c = search needs
 returns : tie.Need-returns Inv-loop μ-loop
 returns c =
     let l = c .before .loop in
-    let a = c .before .before .args in
-    rw (← cone-all (a .seen .now) (a .k .0) (l .i) (search needs)) (l .inv .2)
+    let s = c .before .before .before in
+    rw (← cone-all (s .pre .1) (s .pre .2) (l .i) (search needs)) (l .inv .2)
 
 pub add-cone-spec : {M : Type 1} → statement M
 add-cone-spec =

@@ -4,17 +4,17 @@ use mathlib.Core.Bool.{not}
 use Rattle.hull.proofs.step.add_side.Statement.{statement}
 use Rattle.hull.proofs.step.add_side.Tie as tie
 
-has-side-requires : tie.Need-has-side-requires
-has-side-requires c κs = search needs
+is-marked-requires : tie.Need-is-marked-requires
+is-marked-requires c κs = search needs
 
-put-requires : tie.Need-put-requires
-put-requires c κs = rw (ap not (c .before .has-side .ensures)) (c .before .before .pre)
+pour-requires : tie.Need-pour-requires
+pour-requires c κs = search needs
 
 same-length : tie.Need-same-length
 same-length c = search needs
 
 returns : tie.Need-returns
-returns c = rw (ap not (c .before .before .before .has-side .ensures)) at (c .before .put .ensures)
+returns c = rw (ap not (c .before .before .before .is-marked .ensures)) at (c .before .pour .ensures)
 
 pub add-side-spec : {M : Type 1} → statement M
-add-side-spec = tie.close (tie.spec has-side-requires put-requires same-length returns)
+add-side-spec = tie.close (tie.spec is-marked-requires pour-requires same-length returns)

@@ -1,0 +1,124 @@
+-- V read from a face's plane, and planes put beside their faces one after another.
+use mathlib.Core.Path.{_≡_, sym, ap, subst, _∙_}
+use mathlib.Core.Logic.{_⊎_, inl, inr, _≢_}
+use mathlib.Core.Bool.{Bool, true, false, not}
+use mathlib.Core.List.{List, [], _∷_}
+use Prim.Native.Nat.{ℕ, _+_, _*_, _<_, _≤_}
+use native.Mathlib.Omega.{arith}
+use lib.Dec.{T, T-not, eqb, eqb→eq, eqb-refl, lit≤}
+use lib.IntN.{ℤ, pos, negℤ, _-ℤ_}
+use lib.ListN.{length, getD, set}
+use lib.Signed.{ltZ}
+use lib.Seq.{getD-set-same, getD-set-other}
+use Rattle.laws.specs.Numbers.{Within}
+use Rattle.laws.specs.Lists.{onlyIf, lay}
+use Rattle.laws.proofs.Tests.{T-or}
+use Rattle.laws.proofs.Tables.{lay-none, lay-one, length-only}
+use Rattle.laws.proofs.Ring.{Ex, var, lit, neg, _:-_}
+use Rattle.laws.proofs.Certificates.{combine}
+use Rattle.laws.proofs.WithinLaws.{within-more}
+use Rattle.touches.specs.declared.Point.{Point}
+use Rattle.touches.specs.Touches.{touch, touchCount, Sound, Near, Small}
+use Rattle.touches.proofs.SoundLaws.{touch-near}
+use Rattle.volume.specs.Volume.{Vol, dot, normal, offset}
+use Rattle.volume.proofs.Axes.{X, Y, Z}
+use Rattle.volume.proofs.VolumeLaws.{vol-within}
+use Rattle.volume.proofs.PlaneLaws.{reading-is, normal-within, dot-within}
+use Rattle.rules.specs.Faces.{Face, Places, corner, faceVol}
+use Rattle.hull.specs.Sizes.{mostGap, mostDot, Number}
+use Rattle.hull.specs.Inner.{FaceOf}
+use Rattle.hull.specs.Whole.{wholePlane, planeOn, readAt, PlaneNear, FirstFront, PlanedAt, Planed}
+
+pub gap-near : {q : Point} → Near q → Small mostGap q
+gap-near h = let l : 30000 ≤ mostGap = lit≤ tt in record { x = within-more l (h .x); y = within-more l (h .y); z = within-more l (h .z) }
+
+turned : (v o d : ℤ) → d -ℤ o ≡ negℤ v → o -ℤ d ≡ v
+turned v o d = combine (v ∷ o ∷ d ∷ []) (record { times = neg one; left = var 2 :- var 1; right = neg (var 0) } ∷ []) (var 1 :- var 2) (var 0) tt
+  where
+    one : Ex
+    one = lit (pos 1)
+
+pub read-is : (p : Places) (f : Face) (q : Point) → readAt (planeOn p f) q ≡ faceVol p f q
+unfolding faceVol
+read-is p f q =
+    let a = p (corner f 0) in
+    let b = p (corner f 1) in
+    let c = p (corner f 2) in
+    turned (Vol a b c q) (offset a b c) (dot (normal a b c) q) (reading-is a b c q)
+
+through-near : {a b c : Point} → Near a → Near b → Near c → PlaneNear (wholePlane a b c)
+unfolding offset
+through-near ha hb hc = record {
+  normal = record { x = normal-within ha hb hc X; y = normal-within ha hb hc Y; z = normal-within ha hb hc Z };
+  offset = within-more (lit≤ tt) (dot-within ha hb hc ha);
+}
+
+pub plane-near : {cs : List ℤ} {f : Face} → Sound cs → FaceOf cs f → PlaneNear (planeOn (touch cs) f)
+plane-near {cs} {f} s o = through-near (touch-near s (corner f 0) (o .a)) (touch-near s (corner f 1) (o .b)) (touch-near s (corner f 2) (o .c))
+
+-- of a plane of a table
+module _ {cs : List ℤ} {faces : List Face} {planes : List (List ℤ)} {j : ℕ} (e : PlanedAt cs faces planes j) (s : Sound cs) (o : FaceOf cs (getD faces j [])) where
+  pub planed-near : PlaneNear (getD planes j [])
+  planed-near = rw (e .is) (plane-near {f = getD faces j []} s o)
+
+  pub planed-number : {q : Point} {r : ℤ} → Near q → Number (2 * mostDot) (readAt (getD planes j []) q) r → Number mostDot (faceVol (touch cs) (getD faces j []) q) r
+  unfolding faceVol
+  planed-number {q} {r} h n =
+      let f = getD faces j [] in
+      let v : r ≡ faceVol (touch cs) f q = n .is ∙ ap (λ (w : List ℤ). readAt w q) (e .is) ∙ read-is (touch cs) f q in
+      record { is = v; small = subst (Within mostDot) (sym v) (vol-within (touch-near s (corner f 0) (o .a)) (touch-near s (corner f 1) (o .b)) (touch-near s (corner f 2) (o .c)) h) }
+
+-- ---- a plane stored at place i
+same-or : (j i : ℕ) → (j ≡ i) ⊎ (j ≢ i)
+same-or j i = go (T-or (eqb j i))
+  where
+    go : T (eqb j i) ⊎ T (not (eqb j i)) → (j ≡ i) ⊎ (j ≢ i)
+    go (inl t) = inl (eqb→eq j i t)
+    go (inr t) = inr (λ e. absurd (T-not (eqb j i) t (subst (λ (x : ℕ). T (eqb j x)) e (eqb-refl j))))
+
+pub planed-none : (cs : List ℤ) (faces : List Face) (planes : List (List ℤ)) → Planed cs 0 faces planes
+planed-none cs faces planes = record { each = λ j h. absurd (omega arith) }
+
+pub planed-more : {cs : List ℤ} {i : ℕ} {faces : List Face} {planes : List (List ℤ)} {w : List ℤ} → Planed cs i faces planes → i < length planes → w ≡ planeOn (touch cs) (getD faces i []) → Planed cs (i + 1) faces (set planes i w)
+planed-more {cs} {i} {faces} {planes} {w} h l e = record { each = λ j b. go j b (same-or j i) }
+  where
+    go : (j : ℕ) → j < i + 1 → (j ≡ i) ⊎ (j ≢ i) → PlanedAt cs faces (set planes i w) j
+    go j b (inl s) = record { is = rw s (getD-set-same planes i w [] l ∙ e) }
+    go j b (inr d) = record { is = getD-set-other planes i j w [] d ∙ h .each j (omega arith) .is }
+
+-- a face and its plane put at place m, where y holds
+module _ {cs : List ℤ} {faces : List Face} {planes : List (List ℤ)} {m : ℕ} (f : Face) (w : List ℤ) (a : m < length faces) (b : m < length planes) where
+  pub put-apart : (y : Bool) {j : ℕ} → j ≢ m → PlanedAt cs faces planes j → PlanedAt cs (lay m (onlyIf y f) faces) (lay m (onlyIf y w) planes) j
+  put-apart true {j} d h = record { is = rw (lay-one m f faces a, lay-one m w planes b) (getD-set-other planes m j w [] d ∙ h .is ∙ ap (planeOn (touch cs)) (sym (getD-set-other faces m j f [] d))) }
+  put-apart false d h = rw (lay-none m faces, lay-none m planes) h
+
+  module _ (e : w ≡ planeOn (touch cs) f) where
+    pub put-planed : (y : Bool) → Planed cs m faces planes → Planed cs (m + length (onlyIf y f)) (lay m (onlyIf y f) faces) (lay m (onlyIf y w) planes)
+    put-planed y h = record { each = λ j l. go y j l (same-or j m) }
+      where
+        go : (y : Bool) (j : ℕ) → j < m + length (onlyIf y f) → (j ≡ m) ⊎ (j ≢ m) → PlanedAt cs (lay m (onlyIf y f) faces) (lay m (onlyIf y w) planes) j
+        go true j l (inl s) = record { is = rw (s, lay-one m f faces a, lay-one m w planes b) (getD-set-same planes m w [] b ∙ e ∙ ap (planeOn (touch cs)) (sym (getD-set-same faces m f [] a))) }
+        go false j l (inl s) = absurd (omega arith)
+        go y j l (inr d) = put-apart y d (h .each j (omega (arith, length-only y f)))
+
+-- ---- the search for the first face that q is in front of
+-- q is in front of none of the first i
+pub record Behind (planes : List (List ℤ)) (q : Point) (i : ℕ) : Type 0 where
+  pub each : (j : ℕ) → j < i → ltZ (readAt (getD planes j []) q) (pos 0) ≡ false
+
+pub behind-none : (planes : List (List ℤ)) (q : Point) → Behind planes q 0
+behind-none planes q = record { each = λ j h. absurd (omega arith) }
+
+module _ {planes : List (List ℤ)} {q : Point} {i : ℕ} (b : Behind planes q i) where
+  pub behind-more : ltZ (readAt (getD planes i []) q) (pos 0) ≡ false → Behind planes q (i + 1)
+  behind-more e = record { each = λ j h. go j h (same-or j i) }
+    where
+      go : (j : ℕ) → j < i + 1 → (j ≡ i) ⊎ (j ≢ i) → ltZ (readAt (getD planes j []) q) (pos 0) ≡ false
+      go j h (inl s) = rw s e
+      go j h (inr d) = b .each j (omega arith)
+
+  pub front-here : {n : ℕ} → i < n → ltZ (readAt (getD planes i []) q) (pos 0) ≡ true → FirstFront planes n q i
+  front-here h e = record { within = omega arith; before = b .each; here = λ _. e }
+
+  pub front-nowhere : {n : ℕ} → i ≡ n → FirstFront planes n q n
+  front-nowhere e = record { within = omega arith; before = λ j h. b .each j (omega arith); here = λ h. absurd (omega arith) }
