@@ -192,13 +192,13 @@ void print_times(const std::vector<Row> &table, bool with_outsiders) {
 }
 
 void print_work(const std::vector<Row> &table) {
-    std::printf("%-22s%12s%12s%12s\n", "", "faces", "V", "sides");
+    std::printf("%-22s%12s%12s%12s%12s\n", "", "faces", "V", "sides", "marks");
     for (const Row &row : table) {
-        tally = {0, 0};
+        tally = {0, 0, 0};
         double faces = 0;
         for (const List &list : row.lists) faces += double(answer_of(counted_build, list).out[2]);
         const double n = double(row.lists.size());
-        std::printf("%-22s%12.1f%12.1f%12.1f\n", row.name.c_str(), faces / n, double(tally.looks) / n, double(tally.sides) / n);
+        std::printf("%-22s%12.1f%12.1f%12.1f%12.1f\n", row.name.c_str(), faces / n, double(tally.looks) / n, double(tally.sides) / n, 3 * double(tally.seen) / n);
     }
 }
 
@@ -231,7 +231,7 @@ int main(int argc, char **argv) {
     print_times(table, true);
     std::printf("\ngrowth with the number of touches, nanoseconds a hull\n");
     print_times(grown, false);
-    std::printf("\nwork of the rule, a hull: faces at the end, V of a face and a touch, sides compared with a side\n");
+    std::printf("\nwork, a hull: faces at the end, V of a face and a touch; (a) compares sides with sides, we mark each side of a visible face and look each up once\n");
     print_work(grown);
     return 0;
 }

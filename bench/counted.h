@@ -6,6 +6,7 @@
 struct Tally {
     uint64_t looks; // V of a face and a touch, over all steps
     uint64_t sides; // one side compared with one side
+    uint64_t seen;  // faces that a touch sees
 };
 extern Tally tally;
 

@@ -80,8 +80,12 @@ struct Hull {
         for (size_t i = 0; i < count; i++) {
             const Face f = faces[i];
             TALLY(looks);
-            if (volume_at(f, d) < 0) visible[seen++] = f;
-            else faces[kept++] = f;
+            if (volume_at(f, d) < 0) {
+                TALLY(seen);
+                visible[seen++] = f;
+            } else {
+                faces[kept++] = f;
+            }
         }
         count = kept;
         for (size_t i = 0; i < seen; i++) {

@@ -13,7 +13,7 @@ use Rattle.rules.specs.Building.{cone}
 use Rattle.rules.specs.Demands.{CornersIn}
 use Rattle.rules.proofs.SideLaws.{in-sides}
 use Rattle.rules.proofs.FaceLaws.{side-corners}
-use Rattle.hull.specs.Marks.{MarkTable, Marked, unmarked}
+use Rattle.hull.specs.Marks.{Marked, unmarked}
 use Rattle.hull.specs.Inner.{Poured, coneSide, coneOn}
 use Rattle.hull.proofs.PourLaws.{pour-then}
 

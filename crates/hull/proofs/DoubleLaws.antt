@@ -1,5 +1,4 @@
 -- A face's normal worked in doubles from three points held in doubles, step by step as the code has it.
-use Prim.Native.Nat.{ℕ}
 use lib.IntN.{ℤ, _-ℤ_, _*ℤ_}
 use lib.Ieee.{Float, binary64, sub, mul}
 use Rattle.laws.proofs.Exact.{Exact, e-of, e-sub, e-mul}

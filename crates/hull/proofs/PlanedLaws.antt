@@ -1,10 +1,10 @@
 -- The answers of the plane calls, by what the code finds out on its way.
-use mathlib.Core.Path.{_≡_, refl, sym, _∙_, ap, subst}
+use mathlib.Core.Path.{_≡_, refl}
 use mathlib.Core.Bool.{Bool, true, false, not, _&&_}
 use mathlib.Core.List.{List}
 use Prim.Native.Nat.{ℕ, _<_, _≤_}
 use native.Mathlib.Omega.{arith}
-use lib.Dec.{T, ltb, ltb→lt}
+use lib.Dec.{ltb→lt}
 use lib.IntN.{ℤ, negℤ}
 use borrow.Author.Tests.{lt-ltb, le-ltb}
 use Rattle.laws.proofs.Tests.{and-both, T-of}
@@ -13,13 +13,12 @@ use Rattle.touches.specs.declared.Refusal.{Refusal}
 use Rattle.touches.specs.declared.TouchList.{TouchList}
 use Rattle.touches.specs.declared.Checked.{Checked}
 use Rattle.touches.specs.declared.Checked.the-variants.{Accepted, Refused as CheckedRefused}
-use Rattle.touches.specs.Touches.{touch, touchCount, refusal, Sound, Near}
+use Rattle.touches.specs.Touches.{touch, touchCount, refusal, Near}
 use Rattle.touches.specs.Check.{pick, checked, ifAccepted}
 use Rattle.touches.proofs.SoundLaws.{accepted-sound, touch-near}
 use Rattle.touches.specs.Limits.{placeInRange}
 use Rattle.volume.specs.Volume.{Vol, inLine}
 use Rattle.hull.specs.declared.planes.Plane.{Plane}
-use Rattle.hull.specs.declared.planes.Planed.{Planed}
 use Rattle.hull.specs.declared.planes.Planed.the-variants.{Of, Refused}
 use Rattle.hull.specs.declared.planes.Reading.{Reading}
 use Rattle.hull.specs.declared.planes.Reading.the-variants.{Of as Reads, Refused as ReadingRefused}

@@ -16,7 +16,7 @@ use Rattle.touches.specs.Touches.{touch, touchCount, Sound}
 use Rattle.rules.specs.Faces.{Face}
 use Rattle.rules.specs.Start.{start, corners, startFaces, isStart, Start as Four}
 use Rattle.rules.specs.Building.{step, build, after, others}
-use Rattle.rules.proofs.AfterLaws.{others-upto, after-skip, after-step, hull-none, hull-some}
+use Rattle.rules.proofs.AfterLaws.{others-upto, after-skip, after-step, hull-none}
 use Rattle.rules.proofs.Theorems.{start-order, steps-corners, steps-most, accepted-few}
 use Rattle.hull.specs.Start.{startOf, startedOf, KnownStart}
 use Rattle.hull.specs.Build.{hullOf}

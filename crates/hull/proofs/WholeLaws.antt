@@ -18,7 +18,7 @@ use Rattle.laws.proofs.Ring.{Ex, var, lit, neg, _:-_}
 use Rattle.laws.proofs.Certificates.{combine}
 use Rattle.laws.proofs.WithinLaws.{within-more}
 use Rattle.touches.specs.declared.Point.{Point}
-use Rattle.touches.specs.Touches.{touch, touchCount, Sound, Near, Small}
+use Rattle.touches.specs.Touches.{touch, Sound, Near, Small}
 use Rattle.touches.proofs.SoundLaws.{touch-near}
 use Rattle.volume.specs.Volume.{Vol, dot, normal, offset}
 use Rattle.volume.proofs.Axes.{X, Y, Z}

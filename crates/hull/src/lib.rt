@@ -9,6 +9,6 @@ pub mod planes;
 mod raise;
 mod start;
 mod step;
-mod table;
+pub mod table;
 mod touch;
 mod whole;

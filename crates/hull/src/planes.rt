@@ -7,7 +7,6 @@ use touches::Point;
 use touches::Refusal;
 use touches::TouchNo;
 ghost use mathlib.Core.Path.{_≡_};
-ghost use mathlib.Core.Bool.{true};
 ghost use Prim.Native.Nat.{_<_};
 ghost use lib.IntN.{negℤ};
 ghost use Rattle.touches.specs.Touches.{Near, Sound, touchCount};

@@ -9,7 +9,7 @@ ghost use Rattle.touches.specs.Limits.{mostFaces};
 ghost use Rattle.hull.specs.Table.{stride, room, numbers, lent, faceAt, facesIn, among, usable};
 
 // How many numbers a face takes.
-const STRIDE: usize = 3;
+pub const STRIDE: usize = 3;
 
 // How many faces there is room for.
 pub(crate) fn room(faces: &[u16]) -> usize

@@ -4,14 +4,13 @@ use mathlib.Core.Path.{_≡_, refl, sym, _∙_, ap, ap₂, subst}
 use mathlib.Core.Bool.{Bool, true, false}
 use mathlib.Core.List.{List, [], _∷_}
 use Prim.Native.Nat.{ℕ, zero, suc, _+_, _*_}
-use native.Mathlib.Nat.{zero-add}
 use native.Mathlib.Omega.{arith}
 use lib.Dec.{T, le→leb, ltb, ltb→lt}
-use lib.IntN.{ℤ, pos, negsuc, negℤ, _+ℤ_, _-ℤ_, _*ℤ_, +ℤ-idr, +ℤ-assoc, *ℤ-zero, +ℤ-invr, +ℤ-idl}
+use lib.IntN.{ℤ, pos, negsuc, _+ℤ_, _-ℤ_, _*ℤ_, +ℤ-idr, +ℤ-assoc, *ℤ-zero, +ℤ-invr, +ℤ-idl}
 use lib.Signed.{_≤ℤ_, _<ℤ_}
-use Rattle.laws.proofs.Integers.{sum-is, dif-is, up, dn, -ℤ-zero}
-use Rattle.laws.proofs.Ring.{Ex, var, lit, _:+_, _:-_, _:*_, neg, den, ring, Poly, nil, term, norm, deg, isZero, both, zero-sound, norm-sound, pev, mev, mev-zero}
-use Rattle.laws.proofs.Order.{zs, pos-is, add-nonneg, mul-nonneg, sub-nonneg, of-sub-nonneg, cancel-pos, ≤-refl, not-lt, lt→le1, le1→lt}
+use Rattle.laws.proofs.Integers.{sum-is, dif-is, -ℤ-zero}
+use Rattle.laws.proofs.Ring.{Ex, var, lit, _:+_, _:-_, _:*_, den, ring, Poly, nil, term, norm, deg, isZero, both, norm-sound, pev, mev-zero}
+use Rattle.laws.proofs.Order.{zs, pos-is, add-nonneg, mul-nonneg, sub-nonneg, of-sub-nonneg, cancel-pos, ≤-refl, lt→le1, le1→lt}
 
 pub data Hyp : Type 0 where
   eq : Ex → Ex → Ex → Hyp

@@ -1,6 +1,6 @@
 -- What a computed test says of each member, and of each pair, of a list that is written out.
 use mathlib.Core.Bool.{Bool, true, _&&_}
-use mathlib.Core.List.{List, [], _∷_, List·Memᴰ·not-nil}
+use mathlib.Core.List.{List, [], _∷_}
 use lib.Dec.{T}
 use Rattle.laws.specs.Lists.{In, Pw}
 use Rattle.laws.proofs.Tests.{and-both}

@@ -1,20 +1,19 @@
 -- Floats that hold integers. `Holds x z`: the finite x has exactly the value z; of zero, either sign. Over it: the sum, difference, product, negation, comparisons,
 -- casts, and that x + 0.0 is `ofInt f z`, whose zero is +0. Assumes nothing.
 use mathlib.Core.Path.{_≡_, refl, sym, ap, ap₂, _∙_, subst}
-use mathlib.Core.Logic.{_⊎_, inl, inr}
 use Prim.Native.Nat.{ℕ, zero, suc, _+_, _-_, _*_, _^_, _≤_, _<_, zero-le}
-use native.Mathlib.Nat.{le-refl, le-trans, le-of-eq, mul-one, one-mul, mul-comm, mul-assoc, mul-right-comm, mul-pos, mul-sub, add-zero, zero-mul, zero-lt-suc, lt-irrefl, mul-lt-mul-of-pos-right, mul-le-mul-right, eq-of-mul-eq-mul-right}
+use native.Mathlib.Nat.{mul-one, mul-comm, mul-assoc, mul-pos, mul-sub, add-zero, zero-mul, zero-lt-suc, mul-lt-mul-of-pos-right, mul-le-mul-right, eq-of-mul-eq-mul-right}
 use native.Mathlib.Omega.{arith}
-use mathlib.Core.Bool.{Bool, true, false, not, cond, Bool·beq, _&&_, _||_, true≢false, false≢true}
-use lib.Dec.{T, ltb, leb, eqb, ltb→lt, nltb→le, lt→ltb, leb→le, le→leb, eqb→eq, eqb-refl, leb·suc-suc, eqb·zero-suc, eqb·suc-zero, eqb·suc-suc}
-use lib.IntN.{ℤ, pos, negsuc, negℤ, natAbs, subℕ, _+ℤ_, _-ℤ_, _*ℤ_, negℤ-negℤ, pos-ne-negsuc}
+use mathlib.Core.Bool.{Bool, true, false, not, cond, Bool·beq, _&&_, _||_}
+use lib.Dec.{T, ltb, leb, eqb, ltb→lt, nltb→le, lt→ltb, leb→le, le→leb, eqb→eq, leb·suc-suc, eqb·zero-suc, eqb·suc-zero, eqb·suc-suc}
+use lib.IntN.{ℤ, pos, negsuc, negℤ, natAbs, _+ℤ_, _-ℤ_, _*ℤ_, negℤ-negℤ, pos-ne-negsuc}
 use lib.Signed.{ltZ, leZ}
-use lib.Ieee.{Float, nan, inf, fin, Format, binary64, prec, up, down, unlike, round, sum, add, sub, mul, div, neg, lt, le, eq, ne, below, level, ofInt, fits, ofBits, inFloat}
-use lib.Ieee.Fits.{down-pos, ofInt-fits, eq→eqb}
+use lib.Ieee.{Float, nan, inf, fin, Format, binary64, prec, up, down, unlike, round, sum, add, sub, mul, div, neg, lt, le, eq, below, level, ofInt, ofBits, inFloat}
+use lib.Ieee.Fits.{down-pos, eq→eqb}
 use lib.Ieee.Exact.{HasValue}
 use lib.Ieee.Scale.{round-same}
-use lib.Ieee.Back.{round-whole, whole-unique}
-use lib.Ieee.Bits.{is-true, is-false}
+use lib.Ieee.Back.{round-whole}
+use lib.Ieee.Bits.{is-true}
 use Rattle.laws.specs.Numbers.{eqZ}
 use Rattle.laws.proofs.Tests.{by-test, same-test}
 use Rattle.laws.proofs.Integers as I
@@ -328,21 +327,6 @@ div-is f (fin u a e) (fin r b d) s m t n p v w =
     nz (suc b) n p u d D h = eqb·suc-zero b
 
 -- ---- a float of the format that holds z and is not -0 is `ofInt f z`
-pub is-ofInt : (f : Format) {x : Float} {z : ℤ} → T (fits f x) → natAbs z ≤ 2 ^ prec f → (z ≡ pos 0 → ⊥) → Holds x z → x ≡ ofInt f z
-is-ofInt f {x} {z} t l nz h =
-    let k = ofInt-holds f z l in
-    whole-unique f x (ofInt f z) (h .sign) (h .size) t (ofInt-fits f z) (h .value)
-    (subst (λ (s : Bool). HasValue (ofInt f z) s (h .size) 1) (same (k .sign) (h .sign) (k .size) (h .size) (k .is ∙ sym (h .is)) (λ e. nz (sym (h .is) ∙ e)))
-    (subst (λ (n : ℕ). HasValue (ofInt f z) (k .sign) n 1) (size-is k ∙ sym (size-is h)) (k .value)))
-  where
-    same : (s t : Bool) (m n : ℕ) → signed s m ≡ signed t n → (signed t n ≡ pos 0 → ⊥) → s ≡ t
-    same true true m n e z = refl
-    same false false m n e z = refl
-    same true false zero n e z = absurd (z (sym e))
-    same true false (suc m) n e z = absurd (pos-ne-negsuc n m (sym e))
-    same false true m zero e z = absurd (z refl)
-    same false true m (suc n) e z = absurd (pos-ne-negsuc m n e)
-
 -- ---- the quotient of two held integers, the divisor above 0, is that of the integers' own floats. The numerator is not -0: it is `ofInt f p` already, or p is not 0.
 pub pos-held : {y : Float} {n : ℕ} (k : Holds y (pos (suc n))) → (k .sign ≡ false) × (k .size ≡ suc n)
 pos-held {y} {n} k = go (k .sign) (k .size) (k .is)
@@ -371,21 +355,6 @@ div-holds f {x} {y} {p} {q} l m t h k = ap (λ (u : Float). div f u y) (plus-zer
     go (pos zero) m t k = absurd t
     go (pos (suc n)) m t k = let u = ofInt-holds f p l in div-den f (ofInt f p) n (u .sign) (u .size) (u .value) k (ofInt-holds f (pos (suc n)) m)
     go (negsuc n) m t k = absurd t
-
-pub zero-holds : Holds (ofBits binary64 0) (pos 0)
-zero-holds = subst (λ (x : Float). Holds x (pos 0)) (sym zero-is) (record { sign = false; size = 0; value = (refl, refl); is = refl })
-
-pub ofInt-zero : (f : Format) → HasValue (ofInt f (pos 0)) false 0 1
-unfolding ofInt
-ofInt-zero f = round-whole f false 0 zero-le
-
-pub ofInt-pos : (f : Format) (n : ℕ) → n ≤ 2 ^ prec f → HasValue (ofInt f (pos n)) false n 1
-unfolding ofInt
-ofInt-pos f n h = round-whole f false n h
-
-pub ofInt-neg : (f : Format) (n : ℕ) → suc n ≤ 2 ^ prec f → HasValue (ofInt f (negsuc n)) true (suc n) 1
-unfolding ofInt
-ofInt-neg f n h = round-whole f true (suc n) h
 
 -- ---- `<=` of two held integers
 le-split : (a b : ℕ) → ltb a b || eqb a b ≡ leb a b

@@ -1,16 +1,13 @@
 -- `Exact B x z`: the f64 x holds the integer z, and z is at most B in size. A chain of sums and products is a term of the same shape as the code,
 -- where each step's side condition is a test of numerals, `tt`. Assumes nothing.
 use mathlib.Core.Path.{_≡_, sym, subst}
-use mir.Syntax.{w32}
-use mir.Val.{toZ, ofZ}
 use Prim.Native.Nat.{ℕ, _+_, _*_, _^_, _≤_}
-use native.Mathlib.Nat.{le-trans, le-of-lt}
-use lib.Dec.{T, leb, ltb, leb→le, le→leb, ltb→lt, lit≤}
+use native.Mathlib.Nat.{le-trans}
+use lib.Dec.{T, leb, leb→le}
 use lib.IntN.{ℤ, negℤ, natAbs, _+ℤ_, _-ℤ_, _*ℤ_}
 use lib.Ieee.{Float, binary64, add, sub, mul, neg, ofInt, ofBits}
 use Rattle.laws.specs.Numbers.{Within}
 use Rattle.laws.proofs.WithinLaws.{within-add, within-sub, within-mul, within-neg}
-use Rattle.laws.proofs.Words.{Reads, r-i32}
 use Rattle.laws.proofs.Doubles.{Holds, add-holds, sub-holds, mul-holds, neg-holds, ofInt-holds, plus-zero64}
 
 pub record Exact (B : ℕ) (x : Float) (z : ℤ) : Type 0 where
@@ -45,10 +42,3 @@ e-plus0 {A} {x} {a} t h = subst (λ (y : Float). Exact A y a) (sym (e-done h)) (
 -- from a contract that says x ≡ ofInt binary64 z
 pub e-of : {A : ℕ} {x : Float} {z : ℤ} → T (leb A (2 ^ 53)) → x ≡ ofInt binary64 z → Within A z → Exact A x z
 e-of {A} {x} {z} t e h = subst (λ (y : Float). Exact A y z) (sym e) (e-int t h)
-
--- an i32 or an i64 `as f64`, as MIR has it: the machine reads the number back from its bits
-pub e-read : {B : ℕ} {y z : ℤ} → T (leb B (2 ^ 53)) → Reads B y z → Exact B (ofInt binary64 y) z
-e-read {B} {y} {z} t h = subst (λ (u : ℤ). Exact B (ofInt binary64 u) z) (sym (h .is)) (e-int t (h .bound))
-
-pub e-i32 : {B : ℕ} {z : ℤ} → T (ltb B (2 ^ 31)) → Within B z → Exact B (ofInt binary64 (toZ w32 (ofZ w32 z))) z
-e-i32 {B} t h = e-read (le→leb B (2 ^ 53) (le-trans (le-of-lt (ltb→lt B (2 ^ 31) t)) (lit≤ tt))) (r-i32 t h)

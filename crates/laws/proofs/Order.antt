@@ -1,17 +1,17 @@
 -- The order of ℤ, through omega: each statement on ℤ is read as one on the naturals up z and dn z (z is up z − dn z).
 use mathlib.Core.Path.{_≡_, refl, sym, _∙_, ap, subst}
-use mathlib.Core.Logic.{_≢_, _⊎_, inl, inr}
+use mathlib.Core.Logic.{_⊎_, inl, inr}
 use Prim.Native.Nat.{ℕ, zero, suc, _+_, _*_, _-_, _<_, _≤_}
-use native.Mathlib.Nat.{zero-lt-suc, mul-pos}
+use native.Mathlib.Nat.{mul-pos}
 use native.Mathlib.Omega.{arith}
 use native.Mathlib.Decide.{decLe}
-use lib.Dec.{T, not-T, leb, ltb, leb→le, le→leb, ltb→lt, lt→ltb, eqb→eq, eqb-refl}
+use lib.Dec.{T, not-T, leb→le, le→leb, ltb→lt, lt→ltb, eqb→eq, eqb-refl}
 use lib.IntN.{ℤ, pos, negsuc, negℤ, _+ℤ_, _-ℤ_, _*ℤ_, negℤ-negℤ, *ℤ-zero, *ℤ-comm}
 use lib.Signed.{_≤ℤ_, _<ℤ_, leZ, ltZ, <ℤ-irrefl, ltZ-no}
 use mathlib.Core.Bool.{Bool, true, false, not}
 use Rattle.laws.specs.Numbers.{eqZ}
 use Rattle.laws.proofs.Tests.{is-true, is-false}
-use Rattle.laws.proofs.Integers.{up, dn, ext, sum-is, dif-is, mul-is, up-neg, dn-neg, neg-*ℤ, *ℤ-neg}
+use Rattle.laws.proofs.Integers.{up, dn, ext, sum-is, dif-is, up-neg, dn-neg, neg-*ℤ, *ℤ-neg}
 
 le→′ : (a b : ℤ) → T (leZ a b) → up a + dn b ≤ up b + dn a
 unfolding up dn
@@ -64,10 +64,6 @@ pub pos-is : (n : ℕ) → (up (pos n) ≡ n) × (dn (pos n) ≡ 0)
 unfolding up dn
 pos-is n = (refl, refl)
 
-pub negsuc-is : (n : ℕ) → (up (negsuc n) ≡ 0) × (dn (negsuc n) ≡ suc n)
-unfolding up dn
-negsuc-is n = (refl, refl)
-
 -- the list: `omega (arith, zs, sum-is a b, dif-is c d, ..)`
 pub ruleset zs = (le→, →le, lt→, →lt, eq→, →eq)
 
@@ -99,17 +95,11 @@ of-sub-nonneg {a} {b} h = omega (arith, zs, dif-is b a, pos-is 0)
 pub sub-pos : {a b : ℤ} → a <ℤ b → pos 0 <ℤ (b -ℤ a)
 sub-pos {a} {b} h = omega (arith, zs, dif-is b a, pos-is 0)
 
-pub of-sub-pos : {a b : ℤ} → pos 0 <ℤ (b -ℤ a) → a <ℤ b
-of-sub-pos {a} {b} h = omega (arith, zs, dif-is b a, pos-is 0)
-
 pub add-nonneg : {a b : ℤ} → pos 0 ≤ℤ a → pos 0 ≤ℤ b → pos 0 ≤ℤ (a +ℤ b)
 add-nonneg {a} {b} h k = omega (arith, zs, sum-is a b, pos-is 0)
 
 pub add-pos : {a b : ℤ} → pos 0 <ℤ a → pos 0 ≤ℤ b → pos 0 <ℤ (a +ℤ b)
 add-pos {a} {b} h k = omega (arith, zs, sum-is a b, pos-is 0)
-
-pub add-mono : {a b c d : ℤ} → a ≤ℤ b → c ≤ℤ d → (a +ℤ c) ≤ℤ (b +ℤ d)
-add-mono {a} {b} {c} {d} h k = omega (arith, zs, sum-is a c, sum-is b d)
 
 pub neg-mono : {a b : ℤ} → a ≤ℤ b → negℤ b ≤ℤ negℤ a
 neg-mono {a} {b} h = omega (arith, zs, up-neg a, dn-neg a, up-neg b, dn-neg b)
@@ -181,10 +171,6 @@ cancel-nonneg {a} {b} h k = go (sign b)
     go (null e) = subst (λ (z : ℤ). pos 0 ≤ℤ z) (sym e) (≤-refl (pos 0))
     go (plus p) = <→≤ p
 
-pub square-nonneg : (a : ℤ) → pos 0 ≤ℤ (a *ℤ a)
-square-nonneg (pos a) = record { le = le→leb 0 (a * a) (omega arith) }
-square-nonneg (negsuc a) = record { le = le→leb 0 (suc a * suc a) (omega arith) }
-
 -- no zero divisors
 pub mul-zero : (a b : ℤ) → a *ℤ b ≡ pos 0 → (a ≡ pos 0) ⊎ (b ≡ pos 0)
 mul-zero a b e = go (sign a) (sign b)
@@ -210,16 +196,6 @@ lt-true e = record { lt = subst T (sym e) tt }
 
 pub lt-false : {a b : ℤ} → ltZ a b ≡ false → b ≤ℤ a
 lt-false {a} {b} e = ltZ-no (subst (λ (c : Bool). T (not c)) (sym e) tt)
-
-pub le-true : {a b : ℤ} → leZ a b ≡ true → a ≤ℤ b
-le-true e = record { le = subst T (sym e) tt }
-
-nle : (a b : ℤ) → (a ≤ℤ b) ⊎ (b <ℤ a) → leZ a b ≡ false → b <ℤ a
-nle a b (inl h) e = absurd (subst T e (h .le))
-nle a b (inr h) e = h
-
-pub le-false : {a b : ℤ} → leZ a b ≡ false → b <ℤ a
-le-false {a} {b} e = nle a b (below-or a b) e
 
 pub true-lt : {a b : ℤ} → a <ℤ b → ltZ a b ≡ true
 true-lt {a} {b} h = is-true (ltZ a b) (h .lt)

@@ -1,15 +1,15 @@
 -- A ring normaliser for ℤ. An expression's normal form is a sorted list of terms; a monomial is one number, whose digit i in base 32
 -- is the exponent of variable i. So two monomials are multiplied by a sum and compared by one native comparison. That no digit
 -- overflows is checked once, by the expression's degree, which must be below 32.
-use mathlib.Core.Path.{_≡_, refl, sym, _∙_, ap, ap₂, subst}
+use mathlib.Core.Path.{_≡_, refl, sym, _∙_, ap, ap₂}
 use mathlib.Core.Bool.{Bool, true, false}
 use mathlib.Core.List.{List, [], _∷_}
 use Prim.Native.Nat.{ℕ, zero, suc, _+_, _*_, _/_, _%_, _^_, _≤_, _<_, max, compare, Ordering, Ordering·lt, Ordering·eq, Ordering·gt}
 use native.Mathlib.Nat.{pow-suc, le-trans, zero-add, suc-add}
 use native.Mathlib.Omega.{arith}
 use lib.Dec.{T, ltb, ltb→lt, isEq, eqb→eq}
-use lib.IntN.{ℤ, pos, negsuc, negℤ, _+ℤ_, _-ℤ_, _*ℤ_, *ℤ-comm, +ℤ-assoc, +ℤ-comm, +ℤ-idl, +ℤ-idr, zero-*ℤ, *ℤ-zero}
-use Rattle.laws.proofs.Integers.{*ℤ-+ℤ, +ℤ-*ℤ, *ℤ-assoc, neg-*ℤ, one-*ℤ, *ℤ-left-comm, +ℤ-left-comm, +ℤ-swap, *ℤ-swap, -ℤ-zero}
+use lib.IntN.{ℤ, pos, negsuc, negℤ, _+ℤ_, _-ℤ_, _*ℤ_, *ℤ-comm, +ℤ-assoc, +ℤ-idl, +ℤ-idr, zero-*ℤ, *ℤ-zero}
+use Rattle.laws.proofs.Integers.{*ℤ-+ℤ, +ℤ-*ℤ, *ℤ-assoc, neg-*ℤ, one-*ℤ, +ℤ-left-comm, +ℤ-swap, *ℤ-swap, -ℤ-zero}
 
 -- ---- expressions, over a list of values. A variable past the list's end is 1
 infixl 6 _:+_ _:-_

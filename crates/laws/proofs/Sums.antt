@@ -10,7 +10,7 @@ use lib.Dec.{T, T-not, not-T}
 use lib.IntN.{ℤ, pos, negℤ, _+ℤ_, +ℤ-idr, +ℤ-idl, +ℤ-assoc, negℤ-+ℤ}
 use lib.Signed.{_≤ℤ_, _<ℤ_}
 use Rattle.laws.specs.Numbers.{Within}
-use Rattle.laws.specs.Lists.{In, put, keep, has, Pw, Nodup, sumZ}
+use Rattle.laws.specs.Lists.{In, put, keep, has, Nodup, sumZ}
 use Rattle.laws.proofs.Tests.{not-not, →not-not}
 use Rattle.laws.proofs.Integers.{up-neg, dn-neg, sum-is, +ℤ-left-comm, +ℤ-swap}
 use Rattle.laws.proofs.Order.{zs, pos-is, ≤-refl, add-nonneg, add-pos}

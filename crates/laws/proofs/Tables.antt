@@ -107,9 +107,6 @@ module _ {A : Type 0} {r : ℕ} {new old after : List A} (h : Laid 0 new old r a
 
 -- ---- the elements that pass, an element a turn
 module _ {A : Type 0} (t : A → Bool) where
-  keep-one : (a : A) → keep t (a ∷ []) ≡ onlyIf (t a) a
-  keep-one a = refl
-
   -- those of the first i + 1 elements
   pub keep-more : (l : List A) (i : ℕ) (d : A) → i < length l → keep t (take (i + 1) l) ≡ keep t (take i l) ++ onlyIf (t (getD l i d)) (getD l i d)
   keep-more l i d h = rw (add-one, take-suc l i d, keep-append t (take i l) (getD l i d ∷ []))

@@ -23,9 +23,6 @@ is-false false t = refl
 pub T-of : {b : Bool} → b ≡ true → T b
 T-of {b} e = rw e tt
 
-pub T-not-of : {b : Bool} → b ≡ false → T (not b)
-T-not-of {b} e = rw e tt
-
 -- two tests that agree
 pub same-test : (p q : Bool) → (T p → T q) → (T q → T p) → p ≡ q
 same-test true true f g = refl

@@ -1,22 +1,20 @@
 -- How the laws are used: one short example each.
 use mathlib.Core.Path.{_≡_}
-use mathlib.Core.Bool.{Bool}
 use mathlib.Core.List.{List, [], _∷_, _++_}
 use Prim.Native.Nat.{ℕ, _+_, _*_, _^_, _≤_}
 use native.Mathlib.Omega.{arith}
-use lib.IntN.{ℤ, pos, negℤ, _+ℤ_, _-ℤ_, _*ℤ_}
+use lib.IntN.{ℤ, pos, _+ℤ_, _-ℤ_, _*ℤ_}
 use lib.Signed.{_≤ℤ_, _<ℤ_, ltZ}
-use lib.ListN.{length}
 use lib.Ieee.{Float, binary64, ofInt, add, sub, mul, div, lt, fin, ofBits}
 use mir.Syntax.{w32, w64}
 use mir.Val.{SFits, toZ, ofZ}
 use mathlib.Core.Bool.{false}
 use Rattle.laws.specs.Numbers.{Within}
-use Rattle.laws.specs.Lists.{Laid, lay}
+use Rattle.laws.specs.Lists.{Laid}
 use Rattle.laws.proofs.Integers.{sum-is}
-use Rattle.laws.proofs.Order.{zs, pos-is, mul-nonneg, sub-nonneg}
+use Rattle.laws.proofs.Order.{zs, mul-nonneg, sub-nonneg}
 use Rattle.laws.proofs.Ring.{var, lit, _:+_, _:-_, _:*_, ring}
-use Rattle.laws.proofs.Certificates.{order, combine, Hyp, le, lt as below, Eqn}
+use Rattle.laws.proofs.Certificates.{order, combine, le, lt as below}
 use Rattle.laws.proofs.Words.{Reads, r-i32, r-sub, r-mul, fits, stored}
 use Rattle.laws.proofs.Doubles.{Holds, lt-is, div-holds}
 use Rattle.laws.proofs.Exact.{Exact, e-sub, e-mul, e-done}

@@ -24,9 +24,6 @@ size {B} h = subst (Within B) (sym (h .is)) (h .bound)
 pub r-int : {B : ℕ} {z : ℤ} → Within B z → Reads B z z
 r-int h = record { is = refl; bound = h }
 
-pub r-from : {B : ℕ} {r x z : ℤ} → r ≡ x → Reads B x z → Reads B r z
-r-from e h = record { is = e ∙ h .is; bound = h .bound }
-
 module _ {A B : ℕ} {x y a b : ℤ} (h : Reads A x a) (k : Reads B y b) where
   pub r-add : Reads (A + B) (x +ℤ y) (a +ℤ b)
   r-add = record { is = ap₂ _+ℤ_ (h .is) (k .is); bound = within-add (h .bound) (k .bound) }

@@ -1,5 +1,6 @@
 // The listing of a record: the hull or the refusal, as text.
 use hull::build::Built;
+use hull::table::STRIDE;
 use records::ReadAnswer;
 use touches::Refusal;
 use touches::TouchList;
@@ -83,7 +84,7 @@ fn face(faces: &[u16], i: usize) -> [u16; 3]
     requires { ⌜ i < room (now faces) ⌝ }
     ensures { λ r. ⌜ r ≡ faceAt (now (faces .entry)) i ⌝ }
 {
-    let at = i * 3;
+    let at = i * STRIDE;
     [faces[at], faces[at + 1], faces[at + 2]]
 }
 
@@ -106,7 +107,7 @@ fn put_built(out: &mut [u8], coords: &[i32]) -> usize
     requires { ⌜ length (now out) ≡ listingRoom ⌝ }
     ensures { λ r. ⌜ Laid 0 (hullText (now (coords .entry))) (now (out .entry)) r (now (out .exit)) ⌝ }
 {
-    let mut faces = [0u16; TouchList::MOST_FACES * 3];
+    let mut faces = [0u16; TouchList::MOST_FACES * STRIDE];
     match hull::build::build(coords, &mut faces) {
         Built::Refused(x) => put_refused(out, x),
         Built::Hull(n, v) => {

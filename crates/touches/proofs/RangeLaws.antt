@@ -1,7 +1,7 @@
 -- The two tests of `in_range`, as the code reads the coordinate back from its bits (y), against `inRange` of the coordinate (z).
 -- Assumes nothing.
-use mathlib.Core.Path.{_≡_, refl, sym, ap}
-use mathlib.Core.Bool.{Bool, true, false, _&&_}
+use mathlib.Core.Path.{_≡_}
+use mathlib.Core.Bool.{true, false}
 use lib.IntN.{ℤ, pos, negℤ}
 use lib.Signed.{leZ}
 use Rattle.touches.specs.Limits.{inRange, reach}

@@ -1,16 +1,15 @@
 -- Laws of `strayFrom`, at the place that a loop has come to.
 -- Assumes nothing.
-use mathlib.Core.Path.{_≡_, refl, sym, _∙_, ap}
-use mathlib.Core.Bool.{Bool, true, false}
-use mathlib.Core.List.{List, [], _∷_}
-use Prim.Native.Nat.{ℕ, suc, _+_, _/_, _<_, _≤_}
+use mathlib.Core.Path.{_≡_}
+use mathlib.Core.Bool.{true, false}
+use mathlib.Core.List.{List}
+use Prim.Native.Nat.{ℕ, _+_, _/_, _<_, _≤_}
 use native.Mathlib.Numerals.{add-one}
 use lib.IntN.{ℤ, pos}
 use lib.ListN.{length, drop, getD}
 use lib.Seq.{drop-cons, drop-length}
 use native.Mathlib.Omega.{arith}
 use Rattle.touches.specs.Limits.{inRange}
-use Rattle.touches.specs.declared.Stray.{Stray}
 use Rattle.touches.specs.declared.Stray.the-variants.{Nowhere, At}
 use Rattle.touches.specs.Check.{strayFrom}
 use Rattle.touches.specs.Touches.{touchNo}

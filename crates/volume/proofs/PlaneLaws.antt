@@ -1,10 +1,10 @@
 -- The plane of a face in whole numbers: its size within range, and that it reads minus V.
 use mathlib.Core.Path.{_≡_}
-use mathlib.Core.List.{List, [], _∷_}
-use Prim.Native.Nat.{ℕ, _*_}
-use lib.IntN.{ℤ, pos, negℤ, _+ℤ_, _-ℤ_, _*ℤ_}
+use mathlib.Core.List.{[], _∷_}
+use Prim.Native.Nat.{_*_}
+use lib.IntN.{ℤ, negℤ, _-ℤ_, _*ℤ_}
 use Rattle.laws.specs.Numbers.{Within}
-use Rattle.laws.proofs.Ring.{Ex, neg, _:-_, ring}
+use Rattle.laws.proofs.Ring.{neg, _:-_, ring}
 use Rattle.laws.proofs.WithinLaws.{within-add, within-sub, within-mul}
 use Rattle.touches.specs.declared.Point.{Point}
 use Rattle.touches.specs.Limits.{reach}

@@ -2,7 +2,7 @@
 use mathlib.Core.List.{List, [], _∷_}
 use Prim.Native.Nat.{ℕ, _+_, _*_}
 use lib.IntN.{ℤ}
-use Rattle.laws.proofs.Ring.{Ex, one, var, _:+_, _:-_, _:*_, neg}
+use Rattle.laws.proofs.Ring.{Ex, one, var, _:+_, _:-_, _:*_}
 use Rattle.touches.specs.declared.Point.{Point}
 use Rattle.volume.proofs.Axes.{Axis, X, Y, Z}
 

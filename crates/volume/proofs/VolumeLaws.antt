@@ -1,6 +1,6 @@
 -- Laws of V. Each opens V once; whoever cites a law never sees the polynomial.
 use mathlib.Core.Path.{_≡_, subst, sym}
-use mathlib.Core.List.{List, [], _∷_}
+use mathlib.Core.List.{[], _∷_}
 use lib.IntN.{ℤ, pos, negℤ, _+ℤ_, _-ℤ_, _*ℤ_}
 use Rattle.laws.specs.Numbers.{Within}
 use Rattle.laws.proofs.Ring.{Ex, o, var, _:+_, _:-_, _:*_, neg, ring}

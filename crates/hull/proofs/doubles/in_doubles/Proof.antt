@@ -1,10 +1,9 @@
 use borrow.Author.Needs.{needs}
-use mathlib.Core.Path.{sym, ap, subst}
-use Prim.Native.Nat.{_^_}
+use mathlib.Core.Path.{sym, subst}
 use native.Mathlib.Nat.{le-trans}
 use lib.Dec.{T, lit≤}
 use lib.IntN.{ℤ}
-use lib.Ieee.{binary64, inFloat, ofInt}
+use lib.Ieee.{binary64, inFloat}
 use mir.Syntax.{w64}
 use mir.Val.{toZ, ofZ}
 use Rattle.laws.specs.Numbers.{Within}

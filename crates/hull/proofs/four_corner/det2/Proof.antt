@@ -2,7 +2,6 @@ use lib.IntN.{ℤ, _*ℤ_, _-ℤ_}
 use mir.Syntax.{w64}
 use mir.Val.{toZ, ofZ}
 use Rattle.laws.proofs.Words.{Reads, r-i64, r-mul, r-sub, fits, stored, size}
-use Rattle.hull.specs.Sizes.{mostGap}
 use Rattle.hull.proofs.four_corner.det2.Statement.{statement}
 use Rattle.hull.proofs.four_corner.det2.Tie as tie
 

@@ -1,5 +1,5 @@
 use borrow.Author.Needs.{needs}
-use mathlib.Core.Path.{_≡_, sym, _∙_, ap}
+use mathlib.Core.Path.{sym, _∙_, ap}
 use Rattle.touches.specs.declared.Checked.{Checked}
 use Rattle.touches.specs.Check.{ifAccepted}
 use Rattle.touches.proofs.SoundLaws.{accepted-sound}

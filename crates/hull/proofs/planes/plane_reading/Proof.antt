@@ -1,8 +1,6 @@
 use borrow.Author.Needs.{needs}
 use borrow.Author.Tests.{not-true, not-false}
-use mathlib.Core.Path.{_≡_, sym, _∙_, ap}
-use mathlib.Core.Bool.{Bool}
-use Rattle.touches.specs.Limits.{placeInRange}
+use mathlib.Core.Path.{sym, _∙_, ap}
 use Rattle.touches.proofs.SoundLaws.{place-near}
 use Rattle.hull.specs.declared.planes.Reading.the-variants.{Of, Refused}
 use Rattle.hull.proofs.PlanedLaws.{Known, planed-known, planed-refused, in-place, out-of-place}

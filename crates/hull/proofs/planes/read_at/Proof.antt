@@ -1,6 +1,5 @@
 use borrow.Author.Needs.{needs}
-use mathlib.Core.Path.{_≡_, _∙_, ap}
-use lib.Ieee.{Float}
+use mathlib.Core.Path.{_∙_, ap}
 use Rattle.laws.proofs.Exact.{e-of, e-add, e-sub, e-mul, e-done}
 use Rattle.volume.specs.Volume.{offset}
 use Rattle.volume.proofs.Axes.{X, Y, Z}

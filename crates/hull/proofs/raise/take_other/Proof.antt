@@ -1,5 +1,5 @@
 use borrow.Author.Needs.{needs}
-use mathlib.Core.Path.{_≡_, sym, _∙_}
+use mathlib.Core.Path.{sym, _∙_}
 use native.Mathlib.Omega.{arith}
 use Rattle.hull.proofs.MarkLaws.{fresh-more}
 use Rattle.hull.proofs.RaiseLaws.{taken-ready, held-skip, held-full, held-step}

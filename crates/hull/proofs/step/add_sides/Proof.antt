@@ -1,6 +1,5 @@
 use borrow.Author.Needs.{needs}
 use mathlib.Core.Path.{_∙_}
-use native.Mathlib.Omega.{arith}
 use Rattle.hull.specs.Marks.{unmarked}
 use Rattle.hull.proofs.ConeLaws.{face-poured}
 use Rattle.hull.proofs.step.add_sides.Statement.{statement}

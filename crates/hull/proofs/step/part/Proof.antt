@@ -1,6 +1,6 @@
 -- The loop's invariant: the first i faces are parted.
 use borrow.Author.Needs.{needs}
-use mathlib.Core.Path.{_≡_, refl, sym, _∙_}
+use mathlib.Core.Path.{_≡_, refl, _∙_}
 use mathlib.Core.Bool.{not}
 use mathlib.Core.List.{[]}
 use Prim.Native.Nat.{_-_}

@@ -1,5 +1,5 @@
 use borrow.Author.Needs.{needs}
-use mathlib.Core.Path.{sym, _∙_}
+use mathlib.Core.Path.{sym}
 use Rattle.laws.proofs.Tables.{lay-none, lay-one}
 use Rattle.hull.proofs.step.put_plane.Statement.{statement}
 use Rattle.hull.proofs.step.put_plane.Tie as tie
