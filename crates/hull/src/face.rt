@@ -11,7 +11,7 @@ ghost use Rattle.rules.specs.Faces.{faceVol};
 ghost use Rattle.hull.specs.Sizes.{mostDot, Number};
 ghost use Rattle.hull.specs.Inner.{FaceOf};
 
-pub(crate) fn face_volume(coords: &[i32], f: [u16; 3], q: Point) -> i64
+fn face_volume(coords: &[i32], f: [u16; 3], q: Point) -> i64
     requires { ⌜ Sound (now coords) × FaceOf (now coords) f × Near q ⌝ }
     ensures { λ r. ⌜ Number mostDot (faceVol (touch (now (coords .entry))) f q) r ⌝ }
 {
