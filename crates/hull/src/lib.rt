@@ -7,6 +7,7 @@ mod four_corner;
 pub mod place;
 pub mod planes;
 mod raise;
+mod rooms;
 mod start;
 mod step;
 pub mod table;

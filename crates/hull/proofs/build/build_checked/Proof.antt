@@ -1,6 +1,5 @@
 use borrow.Author.Needs.{needs}
 use mathlib.Core.Path.{_≡_, refl, sym, ap, _∙_}
-use native.Mathlib.Omega.{arith}
 use Rattle.touches.specs.Touches.{touch}
 use Rattle.rules.specs.Start.{start}
 use Rattle.hull.specs.Table.{room}
@@ -30,38 +29,24 @@ because-requires c κs = search needs
 enum-known-s : tie.Need-enum-known-s
 enum-known-s c = search needs
 
-build-few-requires : tie.Need-build-few-requires
-build-few-requires c κs =
-    let k = c .before .before in
-    let s = c .before .before .before .before .before .before .before in
-    let f = k .before .s .given .0 .0 in
-    (begun (s .args .coords .now) (s .pre .1) (s .pre .0) f (found k), s .pre .1, omega (arith, c .before .if1 .taken))
-
-same-length : tie.Need-same-length
-same-length c = search needs
+build-from-requires : tie.Need-build-from-requires
+build-from-requires c κs =
+    let k = c .before in
+    let s = c .before .before .before .before .before .before in
+    (begun (s .args .coords .now) (s .pre .1) (s .pre .0) (k .before .s .given .0 .0) (found k), s .pre .1)
 
 returns : tie.Need-returns
-returns c = search needs
-
-build-many-requires : tie.Need-build-many-requires
-build-many-requires c κs =
-    let k = c .before .before in
-    let s = c .before .before .before .before .before .before .before in
-    let f = k .before .s .given .0 .0 in
-    (begun (s .args .coords .now) (s .pre .1) (s .pre .0) f (found k), s .pre .1)
-
-returns-2 : tie.Need-returns-2
-returns-2 c =
+returns c =
     let s = c .before .before .before .before .before in
     let cs = s .args .coords .now in
     let e = hull-flat cs (s .pre .1) (sym (c .before .enum-told .given .1) ∙ c .before .before .before .find-start .ensures) in
     (ap Refused (c .because .ensures) ∙ sym (ap (builtFrom (touch cs) (room (s .args .faces .now))) e), refl)
 
-same-length-2 : tie.Need-same-length-2
-same-length-2 c = search needs
+same-length : tie.Need-same-length
+same-length c = search needs
 
-returns-3 : tie.Need-returns-3
-returns-3 c = search needs
+returns-2 : tie.Need-returns-2
+returns-2 c = search needs
 
 pub build-checked-spec : {M : Type 1} → statement M
 build-checked-spec =
@@ -71,10 +56,7 @@ build-checked-spec =
     enum-told
     because-requires
     enum-known-s
-    build-few-requires
-    same-length
+    build-from-requires
     returns
-    build-many-requires
-    returns-2
-    same-length-2
-    returns-3)
+    same-length
+    returns-2)

@@ -11,8 +11,8 @@ use Rattle.rules.proofs.Theorems.{accepted-few}
 use Rattle.hull.specs.Table.{room}
 use Rattle.hull.specs.Build.{builtFrom, tableAfter}
 use Rattle.hull.proofs.BuildLaws.{front-hull, front-count, front-ready, front-few, front-long, front-planed, fresh-ones}
-use Rattle.hull.proofs.build.build_many.Statement.{statement}
-use Rattle.hull.proofs.build.build_many.Tie as tie
+use Rattle.hull.proofs.rooms.build_many.Statement.{statement}
+use Rattle.hull.proofs.rooms.build_many.Tie as tie
 
 slice-aggregate-raise : tie.Need-slice-aggregate-raise
 slice-aggregate-raise c = search needs
