@@ -74,9 +74,7 @@ module _ {cs : List ℤ} (d : Sound cs) {h : List Face} (e : hullOf cs ≡ some 
   module _ (old : List ℕ) (r : length h ≤ room old) where
     -- the building call accepts, and gives the hull's length and volume
     pub call-builds : built cs old ≡ Hull (length h) (volume (touch cs) h)
-    call-builds =
-        ap (λ (k : Checked). ifAccepted k Refused (builtFrom (touch cs) (room old) (hullOf cs))) (sound-accepted cs d)
-        ∙ ap (builtFrom (touch cs) (room old)) e ∙ sym (given (touch cs) (room old) h r refl)
+    call-builds = rw (e, sound-accepted cs d) (sym (given (touch cs) (room old) h r refl))
 
     -- the first part of the table is the hull's numbers
     pub call-writes : take (length h * stride) (tableAfter (built cs old) (hullOf cs) old) ≡ lent h
