@@ -8,8 +8,8 @@
 
    Every length is a count of elements, not of bytes. Any length is allowed; a length
    that does not do is refused. No pointer may be null, even where its length is 0, and
-   each must be aligned for its type. A lent table, `out`, `plane` and `reading` must
-   not overlap each other or anything else handed in.
+   each must be aligned for its type. A lent table, `out`, `plane`, `reading` and
+   `heights` must not overlap each other or anything else handed in.
 
    Every call writes all of its `out`. out[0] is the refusal number, 0 if the call was
    not refused. out[1] is the place of the refusal: the touch number for refusal 3, else
@@ -26,7 +26,7 @@
      6  the face table is empty, its length is no multiple of 3, it has more than 1344
         faces, or a touch number in it is not below the touch count; for a single face:
         such a touch number, or three corners in line
-     7  the asked place is out of range
+     7  the asked place is out of range; for a plumb line: its x or its y
      8  the record is shorter than 3 bytes, or its count is not that of the bytes after
         the count
      9  the record's version byte is not 1
@@ -90,6 +90,20 @@ void chienlohup_plane_reading(const int32_t *touches, size_t touches_len,
                               uint16_t a, uint16_t b, uint16_t c,
                               int32_t x, int32_t y, int32_t z,
                               int64_t out[2], double reading[1]);
+
+/* Builds the hull of the touches and drops a plumb line at (x, y): at which heights z
+   is (x, y, z) on the hull or inside it. Refusals in order: 1, 2, 3, 4, 7.
+   out[2]: the kind, 0 refused, 1 misses, 2 touches, 3 goes through. These are no refusal
+   numbers, and no kinds of a place.
+   heights[0]: where the line enters, the upper height. heights[1]: where it leaves, the
+   lower one. A line that touches has one height, and both are that. Each is the double
+   nearest to the exact height; a height of zero is plus zero, and both are plus zero for
+   a line that misses and on a refusal. The kind is decided on the exact heights: a line
+   that goes through can have two heights that are the same double.
+   A line along an upright side or edge goes through. The hull is kept within the call,
+   which always has room for it. Nothing is lent. */
+void chienlohup_plumb(const int32_t *touches, size_t touches_len,
+                      int32_t x, int32_t y, int64_t out[3], double heights[2]);
 
 /* Reads a touch record. Refusals in order: 8, 9, 10, 2, 3, 11.
    out[2]: the count of touches.

@@ -17,6 +17,8 @@
         -> u8 number, u16 place, u32 byte count, u8 record
      C  u8 list record, u8 list copy
         -> u8 number, u16 place, u32 byte count, u8 copy
+     D  i32 list touches, i32 x, y
+        -> u8 number, u16 place, u8 kind, 2 doubles
 
    Ends with 2 if the input is no such stream or the output cannot be written, with 3 if
    a call gave a number that its place in the answer cannot hold, and with 4 if a call
@@ -292,6 +294,18 @@ static void ask_copy(void)
         put(bytes[i], 1);
 }
 
+static void ask_plumb(void)
+{
+    size_t touches_len = take_touches();
+    int32_t x = take_signed(), y = take_signed();
+    chienlohup_plumb(touches, touches_len, x, y, out, doubles);
+    check_results(3, 2);
+    put_number_and_place();
+    put_out(2, 1);
+    for (int i = 0; i < 2; i++)
+        put(bits_of(doubles[i]), 8);
+}
+
 int main(void)
 {
     while (!at_end()) {
@@ -305,6 +319,7 @@ int main(void)
         case 'R': ask_read(); break;
         case 'W': ask_write(); break;
         case 'C': ask_copy(); break;
+        case 'D': ask_plumb(); break;
         default: stop(2);
         }
     }

@@ -1,10 +1,11 @@
 #!/usr/bin/env python3
-"""01's blocks tried by hand, asked of the second program, whole answers compared."""
+"""01's blocks tried by hand and lines worked by hand, asked of the second program, whole answers compared."""
 
 import sys
 
 sys.dont_write_bytecode = True
 
+import lines
 import second
 
 T = ((0, 0, 0), (10, 0, 0), (0, 10, 0), (0, 0, 10))
@@ -98,8 +99,19 @@ def volumes():
     assert answer == (0, 0, 3000000.0), answer
 
 
+def plumb_lines():
+    for touches, x, y, *right in lines.BY_HAND:
+        answer = second.plumb(flat_list(touches), x, y)
+        # As text, so that minus zero is not zero.
+        assert repr(answer) == repr((0, 0, *right)), (touches, x, y, answer)
+    for numbers, x, y, number, at in lines.REFUSED:
+        answer = second.plumb(numbers, x, y)
+        assert repr(answer) == repr((number, at, second.REFUSED, 0.0, 0.0)), (numbers, x, y, answer)
+
+
 if __name__ == "__main__":
     blocks()
     listing()
     volumes()
-    print("01's blocks: as the paper says")
+    plumb_lines()
+    print("01's blocks and the lines: as the papers say")

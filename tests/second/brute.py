@@ -1,10 +1,12 @@
 #!/usr/bin/env python3
-"""Looks at the second program's hulls from the side of geometry, on small lists.
+"""Looks at the second program's hulls and lines from the side of geometry, on small lists.
 
-Every four touches decide flatness, and every three touches decide whether their plane
-has a face. Neither goes through the building rule.
+Every four touches decide flatness, every three touches decide whether their plane has a
+face, and every three touches over which a line runs give a height that it has within the
+block. None of these goes through the building rule or through faces.
 """
 
+import fractions
 import itertools
 import math
 import random
@@ -71,6 +73,76 @@ def fault(touches, faces):
     return None
 
 
+def turn(p, q, r):
+    """Twice the area of three places as seen from above, with its sign."""
+    return (q[0] - p[0]) * (r[1] - p[1]) - (q[1] - p[1]) * (r[0] - p[0])
+
+
+def heights_over(touches, x, y):
+    """The heights the line has over touches, over two and over three of them.
+
+    The highest and the lowest height in the block are among these.
+    """
+    q = x, y
+    distinct = sorted(set(touches))
+    for a in distinct:
+        if a[:2] == q:
+            yield fractions.Fraction(a[2])
+    for a, b in itertools.combinations(distinct, 2):
+        for i in range(2):
+            if a[i] != b[i] and turn(a, b, q) == 0:
+                part = fractions.Fraction(q[i] - a[i], b[i] - a[i])
+                if 0 <= part <= 1:
+                    yield a[2] + part * (b[2] - a[2])
+                break
+    for three in itertools.combinations(distinct, 3):
+        whole = turn(*three)
+        if whole:
+            a, b, c = three
+            parts = [fractions.Fraction(n, whole) for n in (turn(q, b, c), turn(a, q, c), turn(a, b, q))]
+            if min(parts) >= 0:
+                yield sum(part * p[2] for part, p in zip(parts, three))
+
+
+def line_fault(touches, x, y, answer):
+    """What is wrong with the answer as the line's reading, or None."""
+    heights = list(heights_over(touches, x, y))
+    if not heights:
+        right = second.MISSES, 0.0, 0.0
+    else:
+        high, low = max(heights), min(heights)
+        kind = second.THROUGH if low < high else second.TOUCHES
+        right = kind, high.numerator / high.denominator, low.numerator / low.denominator
+    # As text, so that minus zero is not zero.
+    return None if repr(answer) == repr(right) else f"not {right}"
+
+
+def look_at_lines(count):
+    rng = random.Random(1)
+    seen = dict.fromkeys((second.MISSES, second.TOUCHES, second.THROUGH), 0)
+    for _ in range(count):
+        touches = lists.touches(rng, rng.randint(4, 9))
+        faces = second.hull(touches)
+        line = lists.some_line(rng, touches)
+        if faces is None:
+            continue
+        answer = second.line(touches, faces, *line)
+        what = line_fault(touches, *line, answer)
+        assert what is None, (what, touches, line, answer)
+        kind, high, low = answer
+        seen[kind] += 1
+        # Another reading, heights exchanged or a height moved must not pass.
+        others = [(k, high, low) for k in seen if k != kind] + [(kind, high, low + 1)]
+        if high != low:
+            others.append((kind, low, high))
+        if low == 0:
+            others.append((kind, high, -0.0))
+        for wrong in others:
+            assert line_fault(touches, *line, wrong) is not None, (touches, line, wrong)
+    assert all(seen.values()), seen
+    return seen
+
+
 def look(count):
     rng = random.Random(0)
     solid = 0
@@ -95,3 +167,5 @@ def look(count):
 if __name__ == "__main__":
     count = int(sys.argv[1]) if len(sys.argv) > 1 else 3000
     print(f"{count} small lists, {look(count)} of them not flat: hulls are right")
+    misses, touch, through = look_at_lines(count).values()
+    print(f"lines that miss {misses}, that touch {touch}, that go through {through}: all are right")

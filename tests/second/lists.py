@@ -9,6 +9,7 @@ import math
 import random
 import struct
 
+import lines
 import second
 
 FAR = 30_000
@@ -284,6 +285,41 @@ def some_place(rng, made):
     return place if second.in_range(place) else a
 
 
+# Plumb lines
+
+
+def on_way(rng, a, b):
+    """A whole x and y on the way from a to b, seen from above; beyond them at times."""
+    across, along_y = b[0] - a[0], b[1] - a[1]
+    parts = math.gcd(across, along_y) or 1
+    part = rng.choice((rng.randint(0, parts), parts // 2, -1, parts + 1))
+    return a[0] + part * across // parts, a[1] + part * along_y // parts
+
+
+def some_line(rng, made):
+    """Over a touch, an edge, a face or the block, or just beside; at times out of range."""
+    how = rng.random()
+    if how < 0.05:
+        place = [rng.randint(-FAR, FAR), rng.choice(BEYOND)]
+        rng.shuffle(place)
+        return tuple(place)
+    if how < 0.1 or not made:
+        far = rng.choice((3, 20, FAR))
+        return rng.randint(-far, far), rng.randint(-far, far)
+    a, b, c, d = (rng.choice(made) for _ in range(4))
+    if how < 0.3:
+        line = a[:2]
+    elif how < 0.6:
+        line = on_way(rng, a, b)
+    else:
+        count = rng.choice((3, 4))
+        some = (a, b, c, d)[:count]
+        line = tuple(sum(p[i] for p in some) // count for i in range(2))
+    if how < 0.3 or rng.random() < 0.3:
+        line = line[0] + rng.choice((-1, 0, 0, 1)), line[1] + rng.choice((-1, 0, 0, 1))
+    return line if second.in_range(line) else a[:2]
+
+
 # Records
 
 
@@ -411,6 +447,11 @@ def trouble_with_copy(rng, length, version, part, many, out, no_room):
     return "C", record, fill(rng, rng.choice((0, 26)) if no_room else 410, "B")
 
 
+def trouble_with_plumb(rng, odd, many, out, flat, far):
+    numbers = trouble_with_touches(rng, odd, many, out, flat)
+    return "D", numbers, *(rng.sample((1, rng.choice(BEYOND)), 2) if far else (1, 2))
+
+
 EITHER = (False, True)
 TABLES = ("none", "empty", "odd", "over", "number")
 FACES = ("none", "number", "line")
@@ -422,6 +463,7 @@ TROUBLE = {
     "R": (trouble_with_read, (EITHER,) * 6),
     "W": (trouble_with_write, (EITHER,) * 4),
     "C": (trouble_with_copy, (EITHER,) * 6),
+    "D": (trouble_with_plumb, (EITHER,) * 5),
 }
 
 
@@ -475,6 +517,11 @@ def drawn_copy(rng):
     return "C", record, fill(rng, length_near(rng, len(record), 6), "B")
 
 
+def drawn_plumb(rng):
+    made = touches(rng, touch_count(rng))
+    return "D", damaged(rng, flat_list(made)), *some_line(rng, made)
+
+
 # A call's maker of drawn requests, and how often it is drawn
 DRAWN = {
     "B": (drawn_build, 8),
@@ -484,6 +531,7 @@ DRAWN = {
     "R": (drawn_read, 3),
     "W": (drawn_write, 2),
     "C": (drawn_copy, 2),
+    "D": (drawn_plumb, 6),
 }
 
 
@@ -555,9 +603,8 @@ def fixed_place(rng):
     yield "P", (), (), 0, 0, 0
 
 
-T_AND_FAR = flat_list(
-    (*T, (20, 0, 0), (-FAR, FAR, -FAR), (FAR, -FAR, -FAR), (FAR, FAR, FAR))
-)
+T_AND_FAR_TOUCHES = (*T, (20, 0, 0), (-FAR, FAR, -FAR), (FAR, -FAR, -FAR), (FAR, FAR, FAR))
+T_AND_FAR = flat_list(T_AND_FAR_TOUCHES)
 
 
 def fixed_plane(rng):
@@ -648,6 +695,80 @@ def fixed_write(rng):
         yield "W", (), fill(rng, length, "B")
 
 
+def grid_lines(low, high):
+    return itertools.product(range(low, high + 1), repeat=2)
+
+
+def lines_over(made, rng):
+    """Over each touch and the middle of each two, and just beside."""
+    for a, b in itertools.combinations_with_replacement(made, 2):
+        middle = [(a[i] + b[i]) // 2 for i in range(2)]
+        for line in (middle, [n + rng.choice((-1, 1)) for n in middle]):
+            if second.in_range(line):
+                yield line
+
+
+def fixed_plumb(rng):
+    for made, x, y, *_ in lines.BY_HAND:
+        yield "D", flat_list(made), x, y
+    for numbers, x, y, *_ in lines.REFUSED:
+        yield "D", numbers, x, y
+    # Every line over small blocks: along upright sides and edges, at corners, beside them.
+    for made in (T, T[::-1], T + ((1, 1, 1), (2, 3, 5)), T + ((10, 10, 0),), T + ((20, 0, 0),)):
+        for x, y in grid_lines(-2, 12):
+            yield "D", flat_list(made), x, y
+    for step in (1, 10, 10_000):
+        for made in (
+            itertools.product((0, step), repeat=3),
+            itertools.product((-step, 0, step), (-step, 0, step), (0, step)),
+            [(x, y, z) for x, y, z in itertools.product((-step, 0, step), repeat=3) if x + y <= z],
+        ):
+            made = flat_list(made)
+            for x, y in grid_lines(-4, 4):
+                for beside in (0, 1):
+                    yield "D", made, x * step // 2 + beside, y * step // 2 - beside
+    # Edges over which a height is no whole number, and is below zero.
+    for low, made in itertools.product((0, 1, -7, 2 - FAR), (lines.KEEL, lines.WEDGE, lines.SPINDLE)):
+        made = [(x, y, max(-FAR, z + low)) for x, y, z in made]
+        for x, y in grid_lines(-2, 7):
+            yield "D", flat_list(made), x, y
+    # Both heights round alike: through, at the edge, and past it.
+    thin = lines.THIN
+    for made in (thin, [(x, y, -z) for x, y, z in thin], [(y, x, z) for x, y, z in thin]):
+        for at in (*range(-FAR, 4 - FAR), *range(2870, 2876), *range(-3, 4), *range(FAR - 3, FAR + 1)):
+            for beside in range(-2, 3):
+                line = at, max(-FAR, min(FAR, at + beside))
+                yield "D", flat_list(made), *line
+                yield "D", flat_list(made), *line[::-1]
+    # All bounds round alike about a corner: which is tightest shows in the reading alone.
+    for made in itertools.permutations(lines.SPLINTER):
+        for x, y in grid_lines(-4, 6):
+            yield "D", flat_list(made), 8184 - x, -11277 + y
+    # The ends of the range.
+    ends = tuple(itertools.product((-FAR, FAR), repeat=3))
+    for made in (ends, ends[1:], ends[:4] + ((FAR, 0, 0),), T_AND_FAR_TOUCHES):
+        for x, y in itertools.product((-FAR, 1 - FAR, -1, 0, 1, FAR - 1, FAR), repeat=2):
+            yield "D", flat_list(made), x, y
+    # Every shape, flat ones too.
+    for shape, count in itertools.product(FLAT + SOLID, (4, 6, 9, 14)):
+        made = tuple(shape(rng, count))
+        for x, y in lines_over(made, rng):
+            yield "D", flat_list(made), x, y
+    # Refusals.
+    solid, level = on_sphere(rng, 67), in_plane(rng, 67)
+    for length in range(3 * 66 + 3):
+        yield "D", flat_list(solid)[:length], 0, 0
+        yield "D", flat_list(level)[:length], 0, 0
+    for numbers in every_beyond(flat_list(solid[:64]), BEYOND):
+        yield "D", numbers, 0, 0
+    for numbers in every_beyond(flat_list(T), (FAR, -FAR)):
+        yield "D", numbers, 1, 1
+    for line in every_beyond((1, 1), (*BEYOND, FAR, -FAR)):
+        yield "D", flat_list(T), *line
+        yield "D", flat_list(level[:9]), *line
+    yield "D", flat_list(T), 30_001, -30_001
+
+
 FIXED = {
     "B": fixed_build,
     "P": fixed_place,
@@ -656,6 +777,7 @@ FIXED = {
     "R": fixed_read,
     "W": fixed_write,
     "C": fixed_copy,
+    "D": fixed_plumb,
 }
 
 

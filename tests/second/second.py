@@ -3,9 +3,10 @@
 
 It reads requests from standard input and writes the answers to standard output. It
 shares no code and no table with the library, so that an error in either shows as a
-difference. It works in whole numbers throughout.
+difference. It works in whole numbers throughout, and in fractions of them for heights.
 """
 
+import fractions
 import functools
 import struct
 import sys
@@ -25,7 +26,10 @@ BYTE_ORDER = "big"
 # 01, Where a place lies
 REFUSED, OUTSIDE, ON, INSIDE = 0, 1, 2, 3
 
-# 01, Refusal numbers: each call's order
+# 02, A3: the readings; REFUSED is 0 here too
+MISSES, TOUCHES, THROUGH = 1, 2, 3
+
+# 01, Refusal numbers, and 02: each call's order
 ORDER = {
     "B": (1, 2, 3, 4, 5),
     "P": (1, 2, 3, 6, 7),
@@ -34,6 +38,7 @@ ORDER = {
     "R": (8, 9, 10, 2, 3, 11),
     "W": (1, 2, 3, 12),
     "C": (8, 9, 10, 2, 3, 12),
+    "D": (1, 2, 3, 4, 7),
 }
 
 
@@ -204,6 +209,64 @@ def lies(touches, faces, place):
     return INSIDE, 0
 
 
+# The plumb line
+
+
+def meeting(face_plane, x, y):
+    # 02, A3: at which height the line meets a plane that is not upright
+    normal_x, normal_y, normal_z, offset = face_plane
+    return fractions.Fraction(offset - normal_x * x - normal_y * y, normal_z)
+
+
+def looks_up(face_plane):
+    # 02, A3
+    return face_plane[2] > 0
+
+
+def upright(face_plane):
+    # 02, A3
+    return face_plane[2] == 0
+
+
+def admits(face_plane, x, y):
+    # 02, A3: an upright face admits a line that is on it or behind it
+    normal_x, normal_y, _, offset = face_plane
+    return normal_x * x + normal_y * y <= offset
+
+
+def bounds(planes, x, y):
+    # 02, A3: the tightest bound above and the tightest one below
+    above, below = [], []
+    for each in planes:
+        if not upright(each):
+            (above if looks_up(each) else below).append(meeting(each, x, y))
+    return min(above), max(below)
+
+
+def judged(above, below):
+    # 02, A3: decided on the fractions
+    if above > below:
+        return THROUGH
+    return TOUCHES if above == below else MISSES
+
+
+def height(fraction):
+    # 02, A3: two whole numbers held exactly as doubles, divided once; a zero plus zero
+    return double(fraction.numerator) / double(fraction.denominator)
+
+
+def line(touches, faces, x, y):
+    # 02, A3: the reading, the entry and the exit
+    planes = [plane(*(touches[i] for i in face)) for face in faces]
+    if not all(admits(each, x, y) for each in planes if upright(each)):
+        return MISSES, 0.0, 0.0
+    above, below = bounds(planes, x, y)
+    what = judged(above, below)
+    if what == MISSES:
+        return MISSES, 0.0, 0.0
+    return what, height(above), height(below)
+
+
 # Touch record
 
 
@@ -295,6 +358,11 @@ def bad_face(touches, face):
 def place_out_of_range(place):
     # 01, Refusal numbers 7
     return when(not in_range(place))
+
+
+def line_out_of_range(x, y):
+    # 02, A3: 7 for a line
+    return when(not in_range((x, y)))
 
 
 def wrong_length(record):
@@ -454,6 +522,18 @@ def copy(record, buffer):
     return 0, 0, len(again), over(again, buffer)
 
 
+def plumb(numbers, x, y):
+    # 02, A3
+    touches = touches_of(numbers)
+    grounds = grounds_of_touches(numbers, touches)
+    grounds[4] = lambda: flat(touches)
+    grounds[7] = lambda: line_out_of_range(x, y)
+    number, at = refusal(ORDER["D"], grounds)
+    if number:
+        return number, at, REFUSED, 0.0, 0.0
+    return 0, 0, *line(touches, hull(touches), x, y)
+
+
 # Requests and answers as bytes, as tests/asked.c says. A star marks a list.
 
 CALLS = {
@@ -464,6 +544,7 @@ CALLS = {
     "R": read,
     "W": write,
     "C": copy,
+    "D": plumb,
 }
 
 REQUESTS = {
@@ -474,6 +555,7 @@ REQUESTS = {
     "R": "record B*, touches i*",
     "W": "touches i*, record B*",
     "C": "record B*, copy B*",
+    "D": "touches i*, x i, y i",
 }
 
 ANSWERS = {
@@ -484,6 +566,7 @@ ANSWERS = {
     "R": "number B, place H, touch count H, touches i*",
     "W": "number B, place H, byte count I, record B*",
     "C": "number B, place H, byte count I, copy B*",
+    "D": "number B, place H, kind B, entry d, exit d",
 }
 
 

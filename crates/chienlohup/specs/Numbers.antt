@@ -8,10 +8,13 @@ use Rattle.touches.specs.declared.Refusal.{Refusal}
 use Rattle.records.specs.declared.Numbers.{Numbers}
 use Rattle.hull.specs.Build.{builtRefusal, builtCount, builtVolume}
 use Rattle.hull.specs.Place.{placedRefusal, placedFace}
+use Rattle.hull.specs.Plumb.{plumbedRefusal, plumbedEntry, plumbedExit}
 use Rattle.hull.specs.declared.build.Built.{Built}
 use Rattle.hull.specs.declared.place.Placed.{Placed}
 use Rattle.hull.specs.declared.place.Placed.the-variants.{Outside, On, Inside, Refused}
 use Rattle.hull.specs.declared.planes.Plane.{Plane}
+use Rattle.hull.specs.declared.plumb.Plumbed.{Plumbed}
+use Rattle.hull.specs.declared.plumb.Plumbed.the-variants.{Misses, Touches, Through, Refused as PlumbRefused}
 
 -- a refusal's number and place
 abbrev pub numbers : Refusal → List ℤ
@@ -33,6 +36,20 @@ placedNumbers a = numbers (placedRefusal a) ++ (pos (placedKind a) ∷ pos (plac
 
 abbrev pub planeNumbers : Plane → List Float
 planeNumbers p = p .x ∷ p .y ∷ p .z ∷ p .offset ∷ []
+
+-- the plumb line: then the kind, 0 refused, 1 misses, 2 touches, 3 goes through, counted apart from the refusals and from where a place lies
+abbrev pub plumbedKind : Plumbed → ℕ
+plumbedKind Misses = 1
+plumbedKind (Touches z) = 2
+plumbedKind (Through u l) = 3
+plumbedKind (PlumbRefused r) = 0
+
+abbrev pub plumbedNumbers : Plumbed → List ℤ
+plumbedNumbers a = numbers (plumbedRefusal a) ++ (pos (plumbedKind a) ∷ [])
+
+-- the heights of entry and exit
+abbrev pub plumbedHeights : Plumbed → List Float
+plumbedHeights a = plumbedEntry a ∷ plumbedExit a ∷ []
 
 -- a record's numbers: then the count of touches or bytes
 abbrev pub recordNumbers : Numbers → List ℤ

@@ -1,6 +1,7 @@
 // What C links: numbers, and slices as a pointer and a length. Each call's answer is taken apart into numbers.
 use hull::build::Built;
 use hull::place::Placed;
+use hull::plumb::Plumbed;
 use records::Numbers;
 use touches::Point;
 use touches::Refusal;
@@ -15,7 +16,8 @@ ghost use Rattle.records.specs.Answers.{readOf, writeOf, copyOf, listAfter, buf
 ghost use Rattle.hull.specs.Build.{hullOf, built, tableAfter};
 ghost use Rattle.hull.specs.Place.{placed};
 ghost use Rattle.hull.specs.Planes.{planed, planedRefusal, planedPlane, planeReading, readingRefusal, readingValue};
-ghost use Rattle.chienlohup.specs.Numbers.{numbers, builtNumbers, placedKind, placedNumbers, planeNumbers, recordNumbers, one, placeAt};
+ghost use Rattle.hull.specs.Plumb.{plumbed};
+ghost use Rattle.chienlohup.specs.Numbers.{numbers, builtNumbers, placedKind, placedNumbers, planeNumbers, plumbedKind, plumbedNumbers, plumbedHeights, recordNumbers, one, placeAt};
 
 fn wide8(x: u8) -> i64
     ensures { λ r. ⌜ r ≡ pos x ⌝ }
@@ -25,6 +27,12 @@ fn wide8(x: u8) -> i64
 
 fn wide16(x: u16) -> i64
     ensures { λ r. ⌜ r ≡ pos x ⌝ }
+{
+    x as i64
+}
+
+fn wide32(x: i32) -> i64
+    ensures { λ r. ⌜ r ≡ x ⌝ }
 {
     x as i64
 }
@@ -70,6 +78,35 @@ fn placed_numbers(a: Placed) -> [i64; 4]
 {
     let f = a.face();
     said_with(a.refusal(), wide16(kind(a)), wide16(f.0))
+}
+
+// 0 refused, 1 misses, 2 touches, 3 goes through: counted apart from the refusals, and from where a place lies.
+fn line_kind(a: Plumbed) -> u16
+    ensures { λ r. ⌜ r ≡ plumbedKind a ⌝ }
+{
+    match a {
+        Plumbed::Misses => 1,
+        Plumbed::Touches(_) => 2,
+        Plumbed::Through(_, _) => 3,
+        Plumbed::Refused(_) => 0,
+    }
+}
+
+fn plumbed_numbers(a: Plumbed) -> [i64; 3]
+    ensures { λ o. ⌜ o ≡ plumbedNumbers a ⌝ }
+{
+    let r = a.refusal();
+    let number = r.number;
+    let place = r.place.0;
+    [wide8(number), wide16(place), wide16(line_kind(a))]
+}
+
+fn plumbed_heights(a: Plumbed) -> [f64; 2]
+    ensures { λ h. ⌜ h ≡ plumbedHeights a ⌝ }
+{
+    let entry = a.entry();
+    let exit = a.exit();
+    [entry, exit]
 }
 
 // A record's numbers: its count of touches or bytes is small.
@@ -152,6 +189,22 @@ pub extern "C" fn chienlohup_plane_reading(
     let answer = hull::planes::plane_reading(touches, TouchNo(a), TouchNo(b), TouchNo(c), q);
     *out = said(answer.refusal());
     *reading = [answer.value()];
+}
+
+#[no_mangle]
+pub extern "C" fn chienlohup_plumb(
+    touches: &[i32],
+    x: i32,
+    y: i32,
+    out: &mut [i64; 3],
+    heights: &mut [f64; 2],
+)
+    ensures said { λ r. ⌜ now (out .exit) ≡ plumbedNumbers (plumbed (now (touches .entry)) x y) ⌝ }
+    ensures heights { λ r. ⌜ now (heights .exit) ≡ plumbedHeights (plumbed (now (touches .entry)) x y) ⌝ }
+{
+    let answer = hull::plumb::plumb(touches, wide32(x), wide32(y));
+    *out = plumbed_numbers(answer);
+    *heights = plumbed_heights(answer);
 }
 
 #[no_mangle]

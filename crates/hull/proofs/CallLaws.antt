@@ -16,10 +16,8 @@ use Rattle.laws.proofs.Tests.{is-true, both-and}
 use Rattle.laws.proofs.Members.{every-all}
 use Rattle.touches.specs.declared.FaceNo.{FaceNo}
 use Rattle.touches.specs.declared.Point.{Point}
-use Rattle.touches.specs.declared.Checked.{Checked}
 use Rattle.touches.specs.Limits.{mostFaces, placeInRange}
 use Rattle.touches.specs.Touches.{touch, touchCount, faceNo, Sound}
-use Rattle.touches.specs.Check.{ifAccepted}
 use Rattle.touches.proofs.SoundLaws.{sound-accepted, near-place, touch-near}
 use Rattle.rules.specs.Faces.{Face, Places, corner}
 use Rattle.rules.specs.Building.{volume}
@@ -29,10 +27,10 @@ use Rattle.rules.proofs.Theorems.{hull-surface, one-result, lists-grow, inside-
 use Rattle.rules.proofs.PlaceLaws.{lies-within}
 use Rattle.hull.specs.Table.{stride, room, lent, facesIn, among, usable}
 use Rattle.hull.specs.Inner.{FaceOf}
-use Rattle.hull.specs.Build.{hullOf, builtFrom, built, tableAfter, builtVolume}
+use Rattle.hull.specs.Build.{hullOf, built, tableAfter, builtVolume}
 use Rattle.hull.specs.Place.{placedBy, placed}
 use Rattle.hull.specs.declared.build.Built.{Built}
-use Rattle.hull.specs.declared.build.Built.the-variants.{Hull, Refused}
+use Rattle.hull.specs.declared.build.Built.the-variants.{Hull}
 use Rattle.hull.specs.declared.place.Placed.{Placed}
 use Rattle.hull.specs.declared.place.Placed.the-variants.{Outside, On, Inside}
 use Rattle.hull.proofs.LentLaws.{length-lent, part-laid, lent-back}
@@ -49,8 +47,8 @@ module _ {cs : List ℤ} (d : Sound cs) {h : List Face} (e : hullOf cs ≡ some 
   faces : (f : Face) → In f h → FaceOf cs f
   faces = hull-surface (touch cs) (touchCount cs) e .corners
 
-  back : facesIn (lent h) ≡ h
-  back = lent-back h (λ f m. faces f m .three)
+  pub hull-back : facesIn (lent h) ≡ h
+  hull-back = lent-back h (λ f m. faces f m .three)
 
   all-among : T (every (among (touchCount cs)) h)
   all-among = every-all (among (touchCount cs)) h (λ f m. one f (faces f m))
@@ -60,7 +58,7 @@ module _ {cs : List ℤ} (d : Sound cs) {h : List Face} (e : hullOf cs ≡ some 
           let n = touchCount cs in
           both-and (ltb (corner f 0) n && ltb (corner f 1) n) (ltb (corner f 2) n) (both-and (ltb (corner f 0) n) (ltb (corner f 1) n) (lt→ltb (corner f 0) n (c .a)) (lt→ltb (corner f 1) n (c .b))) (lt→ltb (corner f 2) n (c .c))
 
-  hull-usable : usable (touchCount cs) (lent h) ≡ true
+  pub hull-usable : usable (touchCount cs) (lent h) ≡ true
   unfolding usable
   hull-usable =
       let n = length-lent h in
@@ -68,7 +66,7 @@ module _ {cs : List ℤ} (d : Sound cs) {h : List Face} (e : hullOf cs ≡ some 
       let some-faces : length (lent h) ≡ 0 → ⊥ = λ z. omega arith in
       let whole : length (lent h) % stride ≡ 0 = omega arith in
       let few : room (lent h) ≤ mostFaces = omega (arith, hull-few d e) in
-      let all : every (among (touchCount cs)) (facesIn (lent h)) ≡ true = ap (every (among (touchCount cs))) back ∙ is-true (every (among (touchCount cs)) h) all-among in
+      let all : every (among (touchCount cs)) (facesIn (lent h)) ≡ true = ap (every (among (touchCount cs))) hull-back ∙ is-true (every (among (touchCount cs)) h) all-among in
       simp (ne-eqb (length (lent h)) 0 some-faces, eq-eqb (length (lent h) % stride) 0 whole, le-leb (room (lent h)) mostFaces few, all)
 
   module _ (old : List ℕ) (r : length h ≤ room old) where
@@ -86,15 +84,15 @@ module _ {cs : List ℤ} (d : Sound cs) {h : List Face} (e : hullOf cs ≡ some 
     pub call-places : (q : Point) → placeInRange q ≡ true → placed cs (take (length h * stride) (tableAfter (built cs old) (hullOf cs) old)) q ≡ placedBy (lies (touch cs) h q)
     call-places q w =
         ap (λ (t : List ℕ). placed cs t q) call-writes
-        ∙ sym (place-looked cs (lent h) q (sound-accepted cs d) hull-usable w (ap (λ (g : List Face). placedBy (lies (touch cs) g q)) (sym back)))
+        ∙ sym (place-looked cs (lent h) q (sound-accepted cs d) hull-usable w (ap (λ (g : List Face). placedBy (lies (touch cs) g q)) (sym hull-back)))
 
 -- ---- demand 3 of the calls: L is accepted, M is put after it, and each call has room
-by-inside : (l : Lies) → placedBy l ≡ Inside → l ≡ inside
+pub by-inside : (l : Lies) → placedBy l ≡ Inside → l ≡ inside
 by-inside (outside f) e = let z : _≡_ {A = ℕ} 0 1 = cc in absurd (omega arith)
 by-inside (on f) e = let z : _≡_ {A = ℕ} 0 1 = cc in absurd (omega arith)
 by-inside inside e = refl
 
-by-on : (l : Lies) {f : FaceNo} → placedBy l ≡ On f → l ≡ on (f .0)
+pub by-on : (l : Lies) {f : FaceNo} → placedBy l ≡ On f → l ≡ on (f .0)
 by-on (outside g) {f} e = let z : _≡_ {A = ℕ} 0 1 = cc in absurd (omega arith)
 by-on (on g) {f} e = let t : faceNo g ≡ f = cc in ap (λ (x : FaceNo). on (x .0)) t
 by-on inside {f} e = let z : _≡_ {A = ℕ} 0 1 = cc in absurd (omega arith)

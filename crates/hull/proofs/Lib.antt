@@ -13,5 +13,9 @@ pub mod SumLaws
 pub mod BuildLaws
 pub mod PlaceLaws
 pub mod CallLaws
+pub mod OwnRoomLaws
 pub mod DoubleLaws
+pub mod BoundsLaws
+pub mod PlumbedLaws
+pub mod PlumbCallLaws
 pub mod PlanedLaws

@@ -11,15 +11,19 @@ use Rattle.laws.proofs.Words.{r-int, stored, size, eq-test}
 use Rattle.volume.specs.Volume.{isZero}
 use Rattle.hull.specs.Sizes.{Number}
 
+-- a number as the machine reads it back
+abbrev pub rd : ℤ → ℤ
+rd z = toZ w64 (ofZ w64 z)
+
 -- the number read back is the one that the contract names
-pub back : {B : ℕ} {z r : ℤ} → T (ltb B (2 ^ 63)) → Number B z r → toZ w64 (ofZ w64 r) ≡ z
+pub back : {B : ℕ} {z r : ℤ} → T (ltb B (2 ^ 63)) → Number B z r → rd r ≡ z
 back t n = stored w64 (r-int (n .small)) t .is ∙ n .is
 
-pub back-small : {B : ℕ} {z r : ℤ} → T (ltb B (2 ^ 63)) → Number B z r → Within B (toZ w64 (ofZ w64 r))
+pub back-small : {B : ℕ} {z r : ℤ} → T (ltb B (2 ^ 63)) → Number B z r → Within B (rd r)
 back-small t n = size (stored w64 (r-int (n .small)) t)
 
 -- the same for a number that is passed on
-pub passed : {B : ℕ} {z : ℤ} → T (ltb B (2 ^ 63)) → Within B z → toZ w64 (ofZ w64 z) ≡ z
+pub passed : {B : ℕ} {z : ℤ} → T (ltb B (2 ^ 63)) → Within B z → rd z ≡ z
 passed t h = stored w64 (r-int h) t .is
 
 -- the machine's test for 0

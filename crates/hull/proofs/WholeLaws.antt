@@ -2,11 +2,11 @@
 use mathlib.Core.Path.{_≡_, sym, ap, subst, _∙_}
 use mathlib.Core.Logic.{_⊎_, inl, inr, _≢_}
 use mathlib.Core.Bool.{Bool, true, false, not}
-use mathlib.Core.List.{List, [], _∷_}
+use mathlib.Core.List.{List, []}
 use Prim.Native.Nat.{ℕ, _+_, _*_, _<_, _≤_}
 use native.Mathlib.Omega.{arith}
 use lib.Dec.{T, T-not, eqb, eqb→eq, eqb-refl, lit≤}
-use lib.IntN.{ℤ, pos, negℤ, _-ℤ_}
+use lib.IntN.{ℤ, pos}
 use lib.ListN.{length, getD, set}
 use lib.Signed.{ltZ}
 use lib.Seq.{getD-set-same, getD-set-other}
@@ -14,16 +14,14 @@ use Rattle.laws.specs.Numbers.{Within}
 use Rattle.laws.specs.Lists.{onlyIf, lay}
 use Rattle.laws.proofs.Tests.{T-or}
 use Rattle.laws.proofs.Tables.{lay-none, lay-one, length-only}
-use Rattle.laws.proofs.Ring.{Ex, var, lit, neg, _:-_}
-use Rattle.laws.proofs.Certificates.{combine}
 use Rattle.laws.proofs.WithinLaws.{within-more}
 use Rattle.touches.specs.declared.Point.{Point}
 use Rattle.touches.specs.Touches.{touch, Sound, Near, Small}
 use Rattle.touches.proofs.SoundLaws.{touch-near}
-use Rattle.volume.specs.Volume.{Vol, dot, normal, offset}
+use Rattle.volume.specs.Volume.{offset}
 use Rattle.volume.proofs.Axes.{X, Y, Z}
 use Rattle.volume.proofs.VolumeLaws.{vol-within}
-use Rattle.volume.proofs.PlaneLaws.{reading-is, normal-within, dot-within}
+use Rattle.volume.proofs.PlaneLaws.{plane-vol, normal-within, dot-within}
 use Rattle.rules.specs.Faces.{Face, Places, corner, faceVol}
 use Rattle.hull.specs.Sizes.{mostGap, mostDot, Number}
 use Rattle.hull.specs.Inner.{FaceOf}
@@ -32,19 +30,9 @@ use Rattle.hull.specs.Whole.{wholePlane, planeOn, readAt, PlaneNear, Fir
 pub gap-near : {q : Point} → Near q → Small mostGap q
 gap-near h = let l : 30000 ≤ mostGap = lit≤ tt in record { x = within-more l (h .x); y = within-more l (h .y); z = within-more l (h .z) }
 
-turned : (v o d : ℤ) → d -ℤ o ≡ negℤ v → o -ℤ d ≡ v
-turned v o d = combine (v ∷ o ∷ d ∷ []) (record { times = neg one; left = var 2 :- var 1; right = neg (var 0) } ∷ []) (var 1 :- var 2) (var 0) tt
-  where
-    one : Ex
-    one = lit (pos 1)
-
 pub read-is : (p : Places) (f : Face) (q : Point) → readAt (planeOn p f) q ≡ faceVol p f q
 unfolding faceVol
-read-is p f q =
-    let a = p (corner f 0) in
-    let b = p (corner f 1) in
-    let c = p (corner f 2) in
-    turned (Vol a b c q) (offset a b c) (dot (normal a b c) q) (reading-is a b c q)
+read-is p f q = sym (plane-vol (p (corner f 0)) (p (corner f 1)) (p (corner f 2)) q)
 
 through-near : {a b c : Point} → Near a → Near b → Near c → PlaneNear (wholePlane a b c)
 unfolding offset

@@ -8,3 +8,6 @@ pub mod Build
 pub mod Place
 pub mod Doubles
 pub mod Planes
+pub mod Fractions
+pub mod Bounds
+pub mod Plumb

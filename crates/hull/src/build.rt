@@ -93,7 +93,7 @@ pub(crate) fn write_hull(
 }
 
 // Building on coordinates of n touches that passed refusals 1 to 3: refusals 4, 5.
-fn build_checked(faces: &mut [u16], coords: &[i32], n: usize) -> Built
+pub(crate) fn build_checked(faces: &mut [u16], coords: &[i32], n: usize) -> Built
     requires { ⌜ Sound (now coords) × (n ≡ touchCount (now coords)) ⌝ }
     ensures answer { λ r. ⌜ r ≡ builtFrom (touch (now (coords .entry))) (room (now (faces .entry))) (hullOf (now (coords .entry))) ⌝ }
     ensures table { λ r. ⌜ now (faces .exit) ≡ tableAfter r (hullOf (now (coords .entry))) (now (faces .entry)) ⌝ }

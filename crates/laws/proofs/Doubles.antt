@@ -15,7 +15,7 @@ use lib.Ieee.Scale.{round-same}
 use lib.Ieee.Back.{round-whole}
 use lib.Ieee.Bits.{is-true}
 use Rattle.laws.specs.Numbers.{eqZ}
-use Rattle.laws.proofs.Tests.{by-test, same-test}
+use Rattle.laws.proofs.Tests.{by-test, same-test, and-true}
 use Rattle.laws.proofs.Integers as I
 use Rattle.laws.proofs.Integers.{ext, sum-is, up-neg, dn-neg, *ℤ-neg, neg-*ℤ}
 use Rattle.laws.proofs.Order.{pos-is}
@@ -262,10 +262,6 @@ eqb-scale m n c h = same-test (eqb (m * c) (n * c)) (eqb m n)
 level-scale : (s : Bool) (m : ℕ) (t : Bool) (n c : ℕ) → 0 < c → level s (m * c) t (n * c) ≡ level s m t n
 level-scale s m t n c h = ap₂ (λ (p q : Bool). p && (Bool·beq s t || q)) (eqb-scale m n c h) (ap (λ (k : ℕ). eqb (m * c) k) (sym (zero-mul c)) ∙ eqb-scale m 0 c h)
 
-and-true : (p : Bool) → p && true ≡ p
-and-true true = refl
-and-true false = refl
-
 level-signed : (s : Bool) (m : ℕ) (t : Bool) (n : ℕ) → level s m t n ≡ eqZ (signed s m) (signed t n)
 level-signed false m false n = and-true (eqb m n)
 level-signed false zero true zero = refl
@@ -355,6 +351,15 @@ div-holds f {x} {y} {p} {q} l m t h k = ap (λ (u : Float). div f u y) (plus-zer
     go (pos zero) m t k = absurd t
     go (pos (suc n)) m t k = let u = ofInt-holds f p l in div-den f (ofInt f p) n (u .sign) (u .size) (u .value) k (ofInt-holds f (pos (suc n)) m)
     go (negsuc n) m t k = absurd t
+
+-- zero over a number above 0 is plus zero
+pub zero-quotient : (f : Format) (q : ℤ) → natAbs q ≤ 2 ^ prec f → T (ltZ (pos 0) q) → div f (ofInt f (pos 0)) (ofInt f q) ≡ ofInt f (pos 0)
+unfolding ofInt
+zero-quotient f (pos zero) m t = absurd t
+zero-quotient f (pos (suc n)) m t =
+    div-is f (round f false 0 1) (round f false (suc n) 1) false 0 false (suc n) (zero-lt-suc n) (round-whole f false 0 zero-le) (round-whole f false (suc n) m)
+    ∙ round-same f false 0 (suc n) 0 1 (zero-lt-suc n) (zero-lt-suc 0) (sym (zero-mul (suc n)))
+zero-quotient f (negsuc n) m t = absurd t
 
 -- ---- `<=` of two held integers
 le-split : (a b : ℕ) → ltb a b || eqb a b ≡ leb a b

@@ -15,3 +15,5 @@ pub mod Turns
 pub mod Uses
 pub mod Pigeons
 pub mod Checks
+pub mod Fractions
+pub mod Balance

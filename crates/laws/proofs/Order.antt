@@ -83,8 +83,17 @@ pub ≤-<-trans : {a b c : ℤ} → a ≤ℤ b → b <ℤ c → a <ℤ c
 pub <→≤ : {a b : ℤ} → a <ℤ b → a ≤ℤ b
 <→≤ {a} {b} h = omega (arith, zs)
 
+pub ≡→≤ : {a b : ℤ} → a ≡ b → a ≤ℤ b
+≡→≤ {a} {b} e = omega (arith, zs)
+
 pub antisymm : {a b : ℤ} → a ≤ℤ b → b ≤ℤ a → a ≡ b
 antisymm {a} {b} h k = omega (arith, zs)
+
+pub pos-mono : {m n : ℕ} → m < n → pos m <ℤ pos n
+pos-mono {m} {n} h = omega (arith, zs, pos-is m, pos-is n)
+
+pub nat-not-neg : (n : ℕ) → pos n <ℤ pos 0 → ⊥
+nat-not-neg n h = omega (arith, zs, pos-is n, pos-is 0)
 
 pub sub-nonneg : {a b : ℤ} → a ≤ℤ b → pos 0 ≤ℤ (b -ℤ a)
 sub-nonneg {a} {b} h = omega (arith, zs, dif-is b a, pos-is 0)

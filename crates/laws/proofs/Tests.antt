@@ -39,6 +39,10 @@ pub both-and : (a b : Bool) → T a → T b → T (a && b)
 both-and true b t u = u
 both-and false b t u = absurd t
 
+pub and-true : (b : Bool) → b && true ≡ b
+and-true true = refl
+and-true false = refl
+
 pub or-either : (a b : Bool) → T (a || b) → T a ⊎ T b
 or-either true b t = inl tt
 or-either false b t = inr t

@@ -1,5 +1,5 @@
 -- How the laws are used: one short example each.
-use mathlib.Core.Path.{_≡_}
+use mathlib.Core.Path.{_≡_, refl, _∙_}
 use mathlib.Core.List.{List, [], _∷_, _++_}
 use Prim.Native.Nat.{ℕ, _+_, _*_, _^_, _≤_}
 use native.Mathlib.Omega.{arith}
@@ -11,6 +11,7 @@ use mir.Val.{SFits, toZ, ofZ}
 use mathlib.Core.Bool.{false}
 use Rattle.laws.specs.Numbers.{Within}
 use Rattle.laws.specs.Lists.{Laid}
+use Rattle.laws.specs.Fractions.{compared as comparedFractions}
 use Rattle.laws.proofs.Integers.{sum-is}
 use Rattle.laws.proofs.Order.{zs, mul-nonneg, sub-nonneg}
 use Rattle.laws.proofs.Ring.{var, lit, _:+_, _:-_, _:*_, ring}
@@ -19,6 +20,7 @@ use Rattle.laws.proofs.Words.{Reads, r-i32, r-sub, r-mul, fits, stored}
 use Rattle.laws.proofs.Doubles.{Holds, lt-is, div-holds}
 use Rattle.laws.proofs.Exact.{Exact, e-sub, e-mul, e-done}
 use Rattle.laws.proofs.Tables.{laid-then}
+use Rattle.laws.proofs.Fractions.{parts-nat, whole-less, whole-same, compared-turned}
 
 -- a polynomial identity is one line
 square : (a b : ℤ) → (a +ℤ b) *ℤ (a +ℤ b) ≡ a *ℤ a +ℤ pos 2 *ℤ a *ℤ b +ℤ b *ℤ b
@@ -63,3 +65,9 @@ quotient wx wy l h k = div-holds binary64 (wx .within) (wy .within) (l .lt) h k
 -- tables: two runs of writing, one after the other
 both-laid : {a : List ℕ} {b old mid after : List ℕ} {r s : ℕ} → Laid 0 a old r mid → Laid r b mid s after → Laid 0 (a ++ b) old s after
 both-laid x y = laid-then x (omega arith) y
+
+-- fractions: 7/3 is less than 5/2, since 1/3 is less than 1/2, since 2/1 is less than 3/1
+less-than : {A : Type 0} (x y z : A) → comparedFractions (pos 7) (pos 3) (pos 5) (pos 2) x y z ≡ x
+less-than x y z =
+    whole-same (parts-nat 7 3 (omega arith)) (parts-nat 5 2 (omega arith)) x y z refl ∙ compared-turned (pos 1) (pos 3) (pos 1) (pos 2) x y z
+    ∙ whole-less (parts-nat 2 1 (omega arith)) (parts-nat 3 1 (omega arith)) x y z (record { lt = tt })

@@ -1,10 +1,10 @@
 -- How large a sum, a difference and a product can be, and which signed widths hold them.
 use mathlib.Core.Path.{_≡_, refl}
-use Prim.Native.Nat.{ℕ, zero, suc, _+_, _-_, _*_, _^_, _≤_, _<_}
-use native.Mathlib.Nat.{le-trans, mul-le-mul}
+use Prim.Native.Nat.{ℕ, zero, suc, _+_, _-_, _*_, _/_, _%_, _^_, _≤_, _<_}
+use native.Mathlib.Nat.{le-trans, mul-le-mul, div-le-self, mod-le}
 use native.Mathlib.Omega.{arith}
 use lib.IntN.{ℤ, pos, negsuc, negℤ, natAbs, _+ℤ_, _-ℤ_, _*ℤ_}
-use lib.Signed.{mag}
+use lib.Signed.{mag, quotZ, remZ}
 use mir.Syntax.{Width}
 use mir.Val.{SFits, hbits}
 use Rattle.laws.specs.Numbers.{Within}
@@ -51,6 +51,24 @@ module _ {A B : ℕ} {x y : ℤ} (h : Within A x) (k : Within B y) where
 
 pub within-sub : {A B : ℕ} {x y : ℤ} → Within A x → Within B y → Within (A + B) (x -ℤ y)
 within-sub h k = within-add h (within-neg k)
+
+-- a quotient rounded towards 0, and its remainder
+abs-quot : (x y : ℤ) → natAbs (quotZ x y) ≤ natAbs x
+abs-quot (pos a) (pos b) = div-le-self a b
+abs-quot (pos a) (negsuc b) = omega (arith, abs-neg (pos (a / suc b)), div-le-self a (suc b))
+abs-quot (negsuc a) (pos b) = omega (arith, abs-neg (pos (suc a / b)), div-le-self (suc a) b)
+abs-quot (negsuc a) (negsuc b) = div-le-self (suc a) (suc b)
+
+abs-rem : (x y : ℤ) → natAbs (remZ x y) ≤ natAbs x
+abs-rem (pos a) y = mod-le a (natAbs y)
+abs-rem (negsuc a) y = omega (arith, abs-neg (pos (suc a % natAbs y)), mod-le (suc a) (natAbs y))
+
+module _ {A : ℕ} {x : ℤ} (y : ℤ) (h : Within A x) where
+  pub within-quot : Within A (quotZ x y)
+  within-quot = record { within = le-trans (abs-quot x y) (h .within) }
+
+  pub within-rem : Within A (remZ x y)
+  within-rem = record { within = le-trans (abs-rem x y) (h .within) }
 
 -- a signed width holds what is below half its power
 pub within-fits : (w : Width) {A : ℕ} {x : ℤ} → A < 2 ^ hbits w → Within A x → SFits w x

@@ -1,6 +1,7 @@
-// Works out planes and readings of small blocks, one line a case; `stdout` beside src/ is what they must be.
+// Works out planes, plane readings and plumb lines of small blocks, one line a case; `stdout` beside src/ is what they must be.
 use hull::planes::Planed;
 use hull::planes::Reading;
+use hull::plumb::Plumbed;
 use touches::Point;
 use touches::Refusal;
 use touches::TouchList;
@@ -31,6 +32,32 @@ const FAR: [i32; 12] = [0, 0, 0, 10, 0, 0, 0, 10, 0, 0, 0, 30001];
 const R: i32 = 30000;
 
 const EDGE: [i32; 12] = [-R, -R, -R, R, -R, -R, -R, R, -R, -R, -R, R];
+
+// Slanting faces 2x + 3y + 6z = 12; 5x + 5y + 3z = 15 above 7x + 7y - 3z = 21; x + y - z = 10.
+const WEDGE: [i32; 12] = [0, 0, 0, 6, 0, 0, 0, 4, 0, 0, 0, 2];
+
+const SPINDLE: [i32; 12] = [0, 0, -7, 3, 0, 0, 0, 3, 0, 0, 0, 5];
+
+const UNDER: [i32; 12] = [0, 0, 0, 10, 0, 0, 0, 10, 0, 0, 0, -10];
+
+// At y = 0 nothing but the edge z = x/3 - 2.
+const KEEL: [i32; 12] = [0, 0, -2, 3, 0, -1, 1, 5, -2, 1, 5, 7];
+
+// Near its long edge the heights of entry and exit are one double.
+const THIN: [i32; 12] = [
+    -R,
+    -R,
+    29949,
+    R,
+    29998,
+    29903,
+    -R,
+    29998,
+    29811,
+    -29997,
+    R,
+    29811,
+];
 
 fn say(text: &[u8]) {
     io::write_all(1, text);
@@ -104,6 +131,29 @@ fn reading(coords: &[i32], a: u16, b: u16, c: u16, x: i64, y: i64, z: i64) {
     }
 }
 
+// A height in millionths, cut to a whole number.
+fn height(z: f64) {
+    whole(z * 1000000.0);
+}
+
+fn line(coords: &[i32], x: i64, y: i64) {
+    match hull::plumb::plumb(coords, x, y) {
+        Plumbed::Refused(r) => refused(r),
+        Plumbed::Misses => say(b"misses\n"),
+        Plumbed::Touches(z) => {
+            say(b"touches");
+            height(z);
+            say(b"\n");
+        }
+        Plumbed::Through(u, l) => {
+            say(b"through");
+            height(u);
+            height(l);
+            say(b"\n");
+        }
+    }
+}
+
 // The four faces of T, and what they read at places on both sides.
 fn block_t() {
     plane(&T, 1, 0, 2);
@@ -160,9 +210,50 @@ fn reading_refusals() {
     reading(&T, 1, 0, 2, -30000, 30000, -30000);
 }
 
+// Through T, down its upright edge and side, at a corner and at an edge; past it, and in front of an upright side.
+fn lines_t() {
+    line(&T, 1, 1);
+    line(&T, 0, 0);
+    line(&T, 5, 0);
+    line(&T, 10, 0);
+    line(&T, 5, 5);
+    line(&T, 11, 0);
+    line(&T, -1, 0);
+}
+
+// Heights that are no whole numbers, heights below zero and zero above them, one double for two heights, and the limits.
+fn lines() {
+    line(&WEDGE, 1, 1);
+    line(&SPINDLE, 1, 1);
+    line(&SPINDLE, 1, 2);
+    line(&UNDER, 1, 1);
+    line(&KEEL, 1, 0);
+    line(&KEEL, 1, 5);
+    line(&THIN, 2873, 2872);
+    line(&THIN, 2874, 2872);
+    line(&EDGE, -30000, -30000);
+    line(&EDGE, 30000, -30000);
+    line(&EDGE, 30000, 30000);
+}
+
+// Refusals 1, 2, 3, 4, 7, each before the next in the order.
+fn line_refusals() {
+    let many = [0i32; TouchList::MOST * 3 + 3];
+    line(&T[..11], 30001, 0);
+    line(&many, 30001, 0);
+    line(&FAR, 30001, 0);
+    line(&LINE, 30001, 0);
+    line(&T, 30001, 0);
+    line(&T, 0, -30001);
+    line(&T, 9223372036854775807, 0);
+}
+
 fn main() {
     block_t();
     large_blocks();
     plane_refusals();
     reading_refusals();
+    lines_t();
+    lines();
+    line_refusals();
 }

@@ -17,10 +17,10 @@ at x y z = record { x = x; y = y; z = z }
 abbrev o : ℤ
 o = pos 0
 
-abbrev places : List Point → Places
+abbrev pub places : List Point → Places
 places l k = getD l k (at o o o)
 
-abbrev block : List Point
+abbrev pub block : List Point
 block = at o o o ∷ at (pos 10) o o ∷ at o (pos 10) o ∷ at o o (pos 10) ∷ []
 
 abbrev and : ℕ → ℕ → ℕ → List Point

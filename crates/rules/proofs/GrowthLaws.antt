@@ -28,13 +28,13 @@ abbrev pub volumeAt : Places → List Face → Point → ℤ
 volumeAt p h o = sumZ (λ f. faceVol p f o) h
 
 -- ---- a sum over the sides, face by face
-abbrev round : (Side → ℤ) → Face → ℤ
+abbrev pub round : (Side → ℤ) → Face → ℤ
 round g f = g (side (corner f 0) (corner f 1)) +ℤ g (side (corner f 1) (corner f 2)) +ℤ g (side (corner f 2) (corner f 0))
 
 regroup : (x y z r s : ℤ) → r ≡ s → x +ℤ y +ℤ z +ℤ r ≡ x +ℤ (y +ℤ (z +ℤ s))
 regroup x y z r s e = combine (x ∷ y ∷ z ∷ r ∷ s ∷ []) (eqn one (var 3) (var 4) ∷ []) (var 0 :+ var 1 :+ var 2 :+ var 3) (var 0 :+ (var 1 :+ (var 2 :+ var 4))) tt e
 
-sum-sides : (g : Side → ℤ) (h : List Face) → sumZ (round g) h ≡ sumZ g (sides h)
+pub sum-sides : (g : Side → ℤ) (h : List Face) → sumZ (round g) h ≡ sumZ g (sides h)
 sum-sides g [] = refl
 sum-sides g (f ∷ h) = regroup (g (side (corner f 0) (corner f 1))) (g (side (corner f 1) (corner f 2))) (g (side (corner f 2) (corner f 0))) (sumZ (round g) h) (sumZ g (sides h)) (sum-sides g h)
 

@@ -18,3 +18,11 @@ pub mod SurfaceLaws
 pub mod GrownLaws
 pub mod Theorems
 pub mod Blocks
+pub mod FacingLaws
+pub mod HeightLaws
+pub mod TurnLaws
+pub mod BoundLaws
+pub mod ReadingLaws
+pub mod PlumbLaws
+pub mod PlumbTurns
+pub mod PlumbBlocks

@@ -4,3 +4,5 @@ pub mod Building
 pub mod Placing
 pub mod Demands
 pub mod Alike
+pub mod Plumb
+pub mod Heights

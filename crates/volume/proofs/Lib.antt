@@ -8,3 +8,4 @@ pub mod Wings
 pub mod Turn
 pub mod LineLaws
 pub mod FlatLaws
+pub mod NormalLaws

@@ -1,4 +1,4 @@
--- The plane of a face in whole numbers: its size within range, and that it reads minus V.
+-- The plane of a face in whole numbers: its size within range, that it reads minus V, and V by it.
 use mathlib.Core.Path.{_≡_}
 use mathlib.Core.List.{[], _∷_}
 use Prim.Native.Nat.{_*_}
@@ -20,6 +20,10 @@ n = crossE (minusE (pt 1) (pt 0)) (minusE (pt 2) (pt 0))
 pub reading-is : (a b c q : Point) → dot (normal a b c) q -ℤ offset a b c ≡ negℤ (Vol a b c q)
 unfolding Vol normal offset
 reading-is a b c q = ring (env (a ∷ b ∷ c ∷ q ∷ [])) (dotE n (pt 3) :- dotE n (pt 0)) (neg (W 0 1 2 3)) tt
+
+pub plane-vol : (a b c q : Point) → Vol a b c q ≡ offset a b c -ℤ dot (normal a b c) q
+unfolding Vol normal offset
+plane-vol a b c q = ring (env (a ∷ b ∷ c ∷ q ∷ [])) (W 0 1 2 3) (dotE n (pt 0) :- dotE n (pt 3)) tt
 
 near-on : {p : Point} → Near p → (i : Axis) → Within reach (on p i)
 near-on h X = h .x

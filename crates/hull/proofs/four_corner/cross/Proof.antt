@@ -1,18 +1,12 @@
 use borrow.Author.Needs.{needs}
 use mathlib.Core.Path.{_≡_, _∙_}
 use lib.IntN.{ℤ}
-use mir.Syntax.{w64}
-use mir.Val.{toZ, ofZ}
 use Rattle.laws.specs.Numbers.{Within}
 use Rattle.volume.specs.Volume.{det2}
 use Rattle.hull.specs.Sizes.{mostGap, mostPart, Number}
-use Rattle.hull.proofs.NumberLaws.{back, back-small, passed}
+use Rattle.hull.proofs.NumberLaws.{rd, back, back-small, passed}
 use Rattle.hull.proofs.four_corner.cross.Statement.{statement}
 use Rattle.hull.proofs.four_corner.cross.Tie as tie
-
--- a number as the machine reads it back
-abbrev rd : ℤ → ℤ
-rd z = toZ w64 (ofZ w64 z)
 
 part : {a b c d r : ℤ} → Within mostGap a → Within mostGap b → Within mostGap c → Within mostGap d → Number mostPart (det2 (rd a) (rd b) (rd c) (rd d)) r → rd r ≡ det2 a b c d
 part a b c d n = back tt n ∙ (λ i. det2 (passed tt a i) (passed tt b i) (passed tt c i) (passed tt d i))

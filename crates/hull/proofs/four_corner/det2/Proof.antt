@@ -1,13 +1,9 @@
 use lib.IntN.{ℤ, _*ℤ_, _-ℤ_}
 use mir.Syntax.{w64}
-use mir.Val.{toZ, ofZ}
 use Rattle.laws.proofs.Words.{Reads, r-i64, r-mul, r-sub, fits, stored, size}
+use Rattle.hull.proofs.NumberLaws.{rd}
 use Rattle.hull.proofs.four_corner.det2.Statement.{statement}
 use Rattle.hull.proofs.four_corner.det2.Tie as tie
-
--- a number as the machine reads it back
-abbrev rd : ℤ → ℤ
-rd z = toZ w64 (ofZ w64 z)
 
 module _ (c : tie.Start) where
   ad : Reads 3600000000 (rd (c .args .a) *ℤ rd (c .args .d)) (c .args .a *ℤ c .args .d)

@@ -1,17 +1,13 @@
 use lib.IntN.{ℤ, _*ℤ_, _+ℤ_}
 use mir.Syntax.{w64}
-use mir.Val.{toZ, ofZ}
 use Rattle.laws.specs.Numbers.{Within}
 use Rattle.laws.proofs.Words.{Reads, r-i64, r-mul, r-add, fits, stored, size}
 use Rattle.touches.specs.declared.Point.{Point}
 use Rattle.touches.specs.Touches.{Small}
 use Rattle.hull.specs.Sizes.{mostGap, mostPart, mostDot}
+use Rattle.hull.proofs.NumberLaws.{rd}
 use Rattle.hull.proofs.four_corner.dot.Statement.{statement}
 use Rattle.hull.proofs.four_corner.dot.Tie as tie
-
--- a number as the machine reads it back
-abbrev rd : ℤ → ℤ
-rd z = toZ w64 (ofZ w64 z)
 
 part : {p q : ℤ} → Within mostPart p → Within mostGap q → Reads 432000000000000 (rd p *ℤ rd q) (p *ℤ q)
 part p q = r-mul (r-i64 tt p) (r-i64 tt q)

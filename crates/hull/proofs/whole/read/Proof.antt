@@ -3,19 +3,14 @@ use mathlib.Core.Path.{_≡_, ap, _∙_}
 use lib.IntN.{ℤ, pos, _-ℤ_}
 use lib.ListN.{getD}
 use mir.Syntax.{w64}
-use mir.Val.{toZ, ofZ}
 use Rattle.laws.proofs.Words.{r-i64, r-sub, fits, stored, size}
 use Rattle.touches.specs.declared.Point.{Point}
 use Rattle.volume.specs.Volume.{dot}
 use Rattle.hull.specs.Whole.{slope}
-use Rattle.hull.proofs.NumberLaws.{passed}
+use Rattle.hull.proofs.NumberLaws.{rd, passed}
 use Rattle.hull.proofs.WholeLaws.{gap-near}
 use Rattle.hull.proofs.whole.read.Statement.{statement}
 use Rattle.hull.proofs.whole.read.Tie as tie
-
--- a number as the machine reads it back
-abbrev rd : ℤ → ℤ
-rd z = toZ w64 (ofZ w64 z)
 
 array-copy-out-result : tie.Need-array-copy-out-result
 array-copy-out-result c = search needs
