@@ -134,7 +134,7 @@ fn places() {
 // Refusals 1, 2, 3, 6, 7, each before the next.
 fn place_refusals() {
     let many = [0i32; TouchList::MOST * 3 + 3];
-    let long = [0u16; TouchList::MOST_FACES * 3 + 3];
+    let long = [0u16; table::MOST + 3];
     place(&T[..11], &FACES, 1, 1, 1);
     place(&many, &FACES, 1, 1, 1);
     place(&FAR, &FACES[..0], 1, 1, 1);

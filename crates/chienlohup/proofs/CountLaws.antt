@@ -10,7 +10,7 @@ use Rattle.touches.specs.declared.TouchList.{TouchList}
 use Rattle.touches.specs.declared.Checked.{Checked}
 use Rattle.touches.specs.declared.Checked.the-variants.{Accepted, Refused}
 use Rattle.touches.specs.Limits.{mostTouches}
-use Rattle.touches.specs.Touches.{refusal}
+use Rattle.touches.specs.Refusals.{touchRoomTooSmall, recordRoomTooSmall, because}
 use Rattle.touches.specs.Check.{pick, checked}
 use Rattle.touches.proofs.SoundLaws.{accepted-sound}
 use Rattle.records.specs.Record.{touchesIn}
@@ -27,7 +27,7 @@ module _ (c : Checked) (few : (l : TouchList) → c ≡ Accepted l → l .count 
   pub read-few : readNumbers (intoList room c) .count ≤ 65535
   read-few = go c refl
     where
-      by : (n : ℕ) → n ≤ mostTouches → (b : Bool) → readNumbers (pick b (Touches n) (ReadRefused (refusal 11 0))) .count ≤ 65535
+      by : (n : ℕ) → n ≤ mostTouches → (b : Bool) → readNumbers (pick b (Touches n) (ReadRefused (because touchRoomTooSmall))) .count ≤ 65535
       by n h true = omega arith
       by n h false = omega arith
 
@@ -38,7 +38,7 @@ module _ (c : Checked) (few : (l : TouchList) → c ≡ Accepted l → l .count 
   pub write-few : writeNumbers (intoBuffer room c) .count ≤ 65535
   write-few = go c refl
     where
-      by : (n : ℕ) → n ≤ mostTouches → (b : Bool) → writeNumbers (pick b (Bytes (3 + 6 * n)) (WriteRefused (refusal 12 0))) .count ≤ 65535
+      by : (n : ℕ) → n ≤ mostTouches → (b : Bool) → writeNumbers (pick b (Bytes (3 + 6 * n)) (WriteRefused (because recordRoomTooSmall))) .count ≤ 65535
       by n h true = omega arith
       by n h false = omega arith
 

@@ -5,16 +5,16 @@ use lib.IntN.{ℤ, pos}
 use lib.Ieee.{Float}
 use Rattle.touches.specs.declared.Point.{Point}
 use Rattle.touches.specs.declared.Refusal.{Refusal}
-use Rattle.records.specs.declared.Numbers.{Numbers}
+use Rattle.planes.specs.declared.Plane.{Plane}
 use Rattle.hull.specs.Build.{builtRefusal, builtCount, builtVolume}
 use Rattle.hull.specs.Place.{placedRefusal, placedFace}
-use Rattle.hull.specs.Plumb.{plumbedRefusal, plumbedEntry, plumbedExit}
 use Rattle.hull.specs.declared.build.Built.{Built}
 use Rattle.hull.specs.declared.place.Placed.{Placed}
 use Rattle.hull.specs.declared.place.Placed.the-variants.{Outside, On, Inside, Refused}
-use Rattle.hull.specs.declared.planes.Plane.{Plane}
-use Rattle.hull.specs.declared.plumb.Plumbed.{Plumbed}
-use Rattle.hull.specs.declared.plumb.Plumbed.the-variants.{Misses, Touches, Through, Refused as PlumbRefused}
+use Rattle.plumb.specs.Plumb.{plumbedRefusal, plumbedEntry, plumbedExit}
+use Rattle.plumb.specs.declared.Plumbed.{Plumbed}
+use Rattle.plumb.specs.declared.Plumbed.the-variants.{Misses, Touches, Through, Refused as PlumbRefused}
+use Rattle.records.specs.declared.Numbers.{Numbers}
 
 -- a refusal's number and place
 abbrev pub numbers : Refusal → List ℤ

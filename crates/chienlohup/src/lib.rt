@@ -1,7 +1,7 @@
 // What C links: numbers, and slices as a pointer and a length. Each call's answer is taken apart into numbers.
 use hull::build::Built;
 use hull::place::Placed;
-use hull::plumb::Plumbed;
+use plumb::Plumbed;
 use records::Numbers;
 use touches::Point;
 use touches::Refusal;
@@ -11,12 +11,12 @@ ghost use mathlib.Core.List.{[], _∷_, _++_};
 ghost use lib.IntN.{pos};
 ghost use Prim.Native.Nat.{_≤_};
 ghost use lib.ListN.{length};
-ghost use Rattle.records.specs.Record.{plainVersion, recordOf, touchesIn};
-ghost use Rattle.records.specs.Answers.{readOf, writeOf, copyOf, listAfter, bufferAfter, readNumbers, writeNumbers};
+ghost use Rattle.planes.specs.Planes.{planed, planedRefusal, planedPlane, planeReading, readingRefusal, readingValue};
 ghost use Rattle.hull.specs.Build.{hullOf, built, tableAfter};
 ghost use Rattle.hull.specs.Place.{placed};
-ghost use Rattle.hull.specs.Planes.{planed, planedRefusal, planedPlane, planeReading, readingRefusal, readingValue};
-ghost use Rattle.hull.specs.Plumb.{plumbed};
+ghost use Rattle.plumb.specs.Plumb.{plumbed};
+ghost use Rattle.records.specs.Record.{plainVersion, recordOf, touchesIn};
+ghost use Rattle.records.specs.Answers.{readOf, writeOf, copyOf, listAfter, bufferAfter, readNumbers, writeNumbers};
 ghost use Rattle.chienlohup.specs.Numbers.{numbers, builtNumbers, placedKind, placedNumbers, planeNumbers, plumbedKind, plumbedNumbers, plumbedHeights, recordNumbers, one, placeAt};
 
 fn wide8(x: u8) -> i64
@@ -164,7 +164,7 @@ pub extern "C" fn chienlohup_plane(
     ensures said { λ r. ⌜ now (out .exit) ≡ numbers (planedRefusal (planed (now (touches .entry)) a b c)) ⌝ }
     ensures plane { λ r. ⌜ now (plane .exit) ≡ planeNumbers (planedPlane (planed (now (touches .entry)) a b c)) ⌝ }
 {
-    let answer = hull::planes::plane_of(touches, TouchNo(a), TouchNo(b), TouchNo(c));
+    let answer = planes::plane_of(touches, TouchNo(a), TouchNo(b), TouchNo(c));
     let p = answer.plane();
     *out = said(answer.refusal());
     *plane = [p.x, p.y, p.z, p.offset];
@@ -186,7 +186,7 @@ pub extern "C" fn chienlohup_plane_reading(
     ensures reading { λ r. ⌜ now (reading .exit) ≡ one (readingValue (planeReading (now (touches .entry)) a b c (placeAt x y z))) ⌝ }
 {
     let q = place_at(x, y, z);
-    let answer = hull::planes::plane_reading(touches, TouchNo(a), TouchNo(b), TouchNo(c), q);
+    let answer = planes::plane_reading(touches, TouchNo(a), TouchNo(b), TouchNo(c), q);
     *out = said(answer.refusal());
     *reading = [answer.value()];
 }
@@ -202,7 +202,7 @@ pub extern "C" fn chienlohup_plumb(
     ensures said { λ r. ⌜ now (out .exit) ≡ plumbedNumbers (plumbed (now (touches .entry)) x y) ⌝ }
     ensures heights { λ r. ⌜ now (heights .exit) ≡ plumbedHeights (plumbed (now (touches .entry)) x y) ⌝ }
 {
-    let answer = hull::plumb::plumb(touches, wide32(x), wide32(y));
+    let answer = plumb::plumb(touches, wide32(x), wide32(y));
     *out = plumbed_numbers(answer);
     *heights = plumbed_heights(answer);
 }

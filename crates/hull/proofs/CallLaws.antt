@@ -1,39 +1,35 @@
 -- Building and then placing: the part of the table that building wrote, handed to the placing call, answers for the hull.
 use mathlib.Core.Path.{_≡_, refl, sym, ap, subst, _∙_}
-use mathlib.Core.Bool.{true, _&&_}
+use mathlib.Core.Bool.{true}
 use mathlib.Core.Logic.{_↔_, _⊎_, inl, inr}
 use mathlib.Core.List.{List, [], _∷_, _++_}
 use mathlib.Core.Option.{Option, some}
-use Prim.Native.Nat.{ℕ, _+_, _*_, _%_, _<_, _≤_}
+use Prim.Native.Nat.{ℕ, _+_, _%_, _<_, _≤_}
 use native.Mathlib.Omega.{arith}
-use borrow.Author.Tests.{eq-eqb, ne-eqb, le-leb}
-use lib.Dec.{T, ltb, lt→ltb}
 use lib.IntN.{ℤ, pos}
 use lib.Signed.{_≤ℤ_, _<ℤ_, <ℤ-irrefl}
-use lib.ListN.{length, take, length-append}
-use Rattle.laws.specs.Lists.{In, every}
-use Rattle.laws.proofs.Tests.{is-true, both-and}
-use Rattle.laws.proofs.Members.{every-all}
+use lib.ListN.{length, length-append}
+use Rattle.laws.specs.Lists.{In}
 use Rattle.touches.specs.declared.FaceNo.{FaceNo}
 use Rattle.touches.specs.declared.Point.{Point}
-use Rattle.touches.specs.Limits.{mostFaces, placeInRange}
+use Rattle.touches.specs.Limits.{placeInRange}
 use Rattle.touches.specs.Touches.{touch, touchCount, faceNo, Sound}
 use Rattle.touches.proofs.SoundLaws.{sound-accepted, near-place, touch-near}
-use Rattle.rules.specs.Faces.{Face, Places, corner}
+use Rattle.rules.specs.Faces.{Face, Places}
 use Rattle.rules.specs.Building.{volume}
 use Rattle.rules.specs.Placing.{Lies, outside, on, inside, lies}
-use Rattle.rules.specs.Demands.{Growth}
+use Rattle.rules.specs.Demands.{Growth, FaceOf}
 use Rattle.rules.proofs.Theorems.{hull-surface, one-result, lists-grow, inside-stays, on-stays, rises-outside}
 use Rattle.rules.proofs.PlaceLaws.{lies-within}
-use Rattle.hull.specs.Table.{stride, room, lent, facesIn, among, usable}
-use Rattle.hull.specs.Inner.{FaceOf}
+use Rattle.table.specs.Table.{room, lent, firstFaces, facesIn, usable}
+use Rattle.table.proofs.LentLaws.{part-laid}
+use Rattle.table.proofs.UsableLaws.{faces-back, lent-usable}
 use Rattle.hull.specs.Build.{hullOf, built, tableAfter, builtVolume}
 use Rattle.hull.specs.Place.{placedBy, placed}
 use Rattle.hull.specs.declared.build.Built.{Built}
 use Rattle.hull.specs.declared.build.Built.the-variants.{Hull}
 use Rattle.hull.specs.declared.place.Placed.{Placed}
 use Rattle.hull.specs.declared.place.Placed.the-variants.{Outside, On, Inside}
-use Rattle.hull.proofs.LentLaws.{length-lent, part-laid, lent-back}
 use Rattle.hull.proofs.BuildLaws.{hull-few, given}
 use Rattle.hull.proofs.PlaceLaws.{place-looked}
 
@@ -48,26 +44,10 @@ module _ {cs : List ℤ} (d : Sound cs) {h : List Face} (e : hullOf cs ≡ some 
   faces = hull-surface (touch cs) (touchCount cs) e .corners
 
   pub hull-back : facesIn (lent h) ≡ h
-  hull-back = lent-back h (λ f m. faces f m .three)
-
-  all-among : T (every (among (touchCount cs)) h)
-  all-among = every-all (among (touchCount cs)) h (λ f m. one f (faces f m))
-    where
-      one : (f : Face) → FaceOf cs f → T (among (touchCount cs) f)
-      one f c =
-          let n = touchCount cs in
-          both-and (ltb (corner f 0) n && ltb (corner f 1) n) (ltb (corner f 2) n) (both-and (ltb (corner f 0) n) (ltb (corner f 1) n) (lt→ltb (corner f 0) n (c .a)) (lt→ltb (corner f 1) n (c .b))) (lt→ltb (corner f 2) n (c .c))
+  hull-back = faces-back cs h faces
 
   pub hull-usable : usable (touchCount cs) (lent h) ≡ true
-  unfolding usable
-  hull-usable =
-      let n = length-lent h in
-      let k = filled (touch cs) h (hull-surface (touch cs) (touchCount cs) e .positive) in
-      let some-faces : length (lent h) ≡ 0 → ⊥ = λ z. omega arith in
-      let whole : length (lent h) % stride ≡ 0 = omega arith in
-      let few : room (lent h) ≤ mostFaces = omega (arith, hull-few d e) in
-      let all : every (among (touchCount cs)) (facesIn (lent h)) ≡ true = ap (every (among (touchCount cs))) hull-back ∙ is-true (every (among (touchCount cs)) h) all-among in
-      simp (ne-eqb (length (lent h)) 0 some-faces, eq-eqb (length (lent h) % stride) 0 whole, le-leb (room (lent h)) mostFaces few, all)
+  hull-usable = lent-usable cs h faces (filled (touch cs) h (hull-surface (touch cs) (touchCount cs) e .positive)) (hull-few d e)
 
   module _ (old : List ℕ) (r : length h ≤ room old) where
     -- the building call accepts, and gives the hull's length and volume
@@ -75,13 +55,13 @@ module _ {cs : List ℤ} (d : Sound cs) {h : List Face} (e : hullOf cs ≡ some 
     call-builds = rw (e, sound-accepted cs d) (sym (given (touch cs) (room old) h r refl))
 
     -- the first part of the table is the hull's numbers
-    pub call-writes : take (length h * stride) (tableAfter (built cs old) (hullOf cs) old) ≡ lent h
+    pub call-writes : firstFaces (length h) (tableAfter (built cs old) (hullOf cs) old) ≡ lent h
     call-writes =
-        ap (λ (b : Built). take (length h * stride) (tableAfter b (hullOf cs) old)) call-builds
-        ∙ ap (λ (o : Option (List Face)). take (length h * stride) (tableAfter (Hull (length h) (volume (touch cs) h)) o old)) e ∙ part-laid h old
+        ap (λ (b : Built). firstFaces (length h) (tableAfter b (hullOf cs) old)) call-builds
+        ∙ ap (λ (o : Option (List Face)). firstFaces (length h) (tableAfter (Hull (length h) (volume (touch cs) h)) o old)) e ∙ part-laid h old
 
     -- and against that part the placing call tells where q lies against the hull
-    pub call-places : (q : Point) → placeInRange q ≡ true → placed cs (take (length h * stride) (tableAfter (built cs old) (hullOf cs) old)) q ≡ placedBy (lies (touch cs) h q)
+    pub call-places : (q : Point) → placeInRange q ≡ true → placed cs (firstFaces (length h) (tableAfter (built cs old) (hullOf cs) old)) q ≡ placedBy (lies (touch cs) h q)
     call-places q w =
         ap (λ (t : List ℕ). placed cs t q) call-writes
         ∙ sym (place-looked cs (lent h) q (sound-accepted cs d) hull-usable w (ap (λ (g : List Face). placedBy (lies (touch cs) g q)) (sym hull-back)))
@@ -111,10 +91,10 @@ module _ (L M : List ℤ) (d : Sound L) (D : Sound (L ++ M)) {h g : List Face} (
       subst (Growth (touch L) (touch (L ++ M)) (touchCount L) (touchCount M) h) (one-result (u .1) E) (u .2)
 
   abbrev before : Point → Placed
-  before q = placed L (take (length h * stride) (tableAfter (built L old) (hullOf L) old)) q
+  before q = placed L (firstFaces (length h) (tableAfter (built L old) (hullOf L) old)) q
 
   abbrev after : Point → Placed
-  after q = placed (L ++ M) (take (length g * stride) (tableAfter (built (L ++ M) new) (hullOf (L ++ M)) new)) q
+  after q = placed (L ++ M) (firstFaces (length g) (tableAfter (built (L ++ M) new) (hullOf (L ++ M)) new)) q
 
   pub call-inside-stays : (q : Point) → placeInRange q ≡ true → before q ≡ Inside → after q ≡ Inside
   call-inside-stays q w i =

@@ -15,8 +15,10 @@ use Rattle.touches.specs.declared.Point.{Point}
 use Rattle.touches.specs.Touches.{touch}
 use Rattle.rules.specs.Faces.{Face, visible}
 use Rattle.rules.specs.Building.{seen, unseen}
-use Rattle.hull.specs.Inner.{FaceOf, inFront, Ready, PartOf}
-use Rattle.hull.specs.Whole.{readAt, PlaneNear, FirstFront, PlanedAt, Planed}
+use Rattle.rules.specs.Demands.{FaceOf}
+use Rattle.points.specs.Whole.{PlaneNear}
+use Rattle.hull.specs.Inner.{inFront, Ready, PartOf}
+use Rattle.hull.specs.Whole.{readAt, FirstFront, PlanedAt, Planed}
 use Rattle.hull.proofs.WholeLaws.{read-is, planed-near, put-apart, put-planed}
 
 abbrev behind : List ℤ → Point → Face → Bool

@@ -1,37 +1,35 @@
 -- Looking at a table's faces one after the other: the first of a kind, and what is settled.
-use mathlib.Core.Path.{_≡_, refl, sym, ap, subst, _∙_}
-use mathlib.Core.Bool.{Bool, true, false, not, _&&_}
+use mathlib.Core.Path.{_≡_, refl, sym, ap, _∙_}
+use mathlib.Core.Bool.{Bool, true, false}
 use mathlib.Core.List.{List, []}
 use mathlib.Core.Option.{Option, none, some}
-use Prim.Native.Nat.{ℕ, _+_, _%_, _<_, _≤_}
+use Prim.Native.Nat.{ℕ, _+_, _<_, _≤_}
 use native.Mathlib.Omega.{arith}
-use lib.Dec.{T, eqb, leb, ltb, leb→le, ltb→lt}
 use lib.IntN.{ℤ, pos}
 use lib.Signed.{ltZ}
-use lib.ListN.{length, drop}
-use Rattle.laws.specs.Lists.{every, firstFrom}
-use Rattle.laws.proofs.Tests.{T-of, and-both}
-use Rattle.laws.proofs.Members.{every-at}
+use lib.ListN.{drop}
+use Rattle.laws.specs.Lists.{firstFrom}
 use Rattle.laws.proofs.Turns.{first-turn, first-none-left}
 use Rattle.touches.specs.declared.Point.{Point}
 use Rattle.touches.specs.declared.Refusal.{Refusal}
 use Rattle.touches.specs.declared.TouchList.{TouchList}
 use Rattle.touches.specs.declared.Checked.{Checked}
 use Rattle.touches.specs.declared.Checked.the-variants.{Accepted, Refused as CheckedRefused}
-use Rattle.touches.specs.Limits.{mostFaces, placeInRange}
-use Rattle.touches.specs.Touches.{touch, touchCount, faceNo, refusal}
+use Rattle.touches.specs.Limits.{placeInRange}
+use Rattle.touches.specs.Touches.{touch, touchCount, faceNo}
+use Rattle.touches.specs.Refusals.{noSuchFace, placeOutOfRange, because}
 use Rattle.touches.specs.Check.{pick, checked, ifAccepted}
 use Rattle.volume.specs.Volume.{isZero}
-use Rattle.rules.specs.Faces.{Face, corner, faceVol}
+use Rattle.rules.specs.Faces.{Face, faceVol}
 use Rattle.rules.specs.Placing.{byFront, firstFront, firstHolding, lies}
-use Rattle.hull.specs.Table.{stride, room, faceAt, facesIn, among, usable}
-use Rattle.hull.specs.Inner.{FaceOf, earlier, settled}
+use Rattle.table.specs.Table.{room, faceAt, facesIn, usable}
+use Rattle.table.proofs.TableLaws.{length-faces, face-at}
+use Rattle.hull.specs.Inner.{earlier, settled}
 use Rattle.hull.specs.Place.{placedBy, placed}
 use Rattle.hull.specs.declared.place.First.{First}
 use Rattle.hull.specs.declared.place.First.the-variants.{Nowhere, At}
 use Rattle.hull.specs.declared.place.Placed.{Placed}
 use Rattle.hull.specs.declared.place.Placed.the-variants.{Refused}
-use Rattle.hull.proofs.TableLaws.{length-faces, face-at}
 
 -- ---- the first face of a kind
 abbrev orElse : First → Option ℕ → Option ℕ
@@ -84,40 +82,20 @@ module _ (cs : List ℤ) (q : Point) where
       go Nowhere (At f) = refl
       go Nowhere Nowhere = refl
 
--- ---- a table that passed refusal 6, over the touches cs
-module _ (cs : List ℤ) (t : List ℕ) (u : usable (touchCount cs) t ≡ true) where
-  parts : T (leb (room t) mostFaces) × T (every (among (touchCount cs)) (facesIn t))
-  unfolding usable
-  parts =
-      let a = and-both (not (eqb (length t) 0) && eqb (length t % stride) 0 && leb (room t) mostFaces) (every (among (touchCount cs)) (facesIn t)) (T-of u) in
-      (and-both (not (eqb (length t) 0) && eqb (length t % stride) 0) (leb (room t) mostFaces) (a .0) .1, a .1)
-
-  pub usable-few : room t ≤ mostFaces
-  usable-few = leb→le (room t) mostFaces (parts .0)
-
-  pub usable-face : (i : ℕ) → i < room t → FaceOf cs (faceAt t i)
-  usable-face i h =
-      let n = touchCount cs in
-      let f = faceAt t i in
-      let w : T (among n f) = subst (λ (g : Face). T (among n g)) (face-at t i h) (every-at (among n) (facesIn t) i [] (omega (arith, length-faces t)) (parts .1)) in
-      let b = and-both (ltb (corner f 0) n && ltb (corner f 1) n) (ltb (corner f 2) n) w in
-      let a = and-both (ltb (corner f 0) n) (ltb (corner f 1) n) (b .0) in
-      record { three = refl; a = ltb→lt (corner f 0) n (a .0); b = ltb→lt (corner f 1) n (a .1); c = ltb→lt (corner f 2) n (b .1) }
-
 -- ---- the answer by what the three tests gave
 placed-is : (cs : List ℤ) (t : List ℕ) (q : Point) {k : Checked} {b d : Bool} → checked cs ≡ k → usable (touchCount cs) t ≡ b → placeInRange q ≡ d
-    → ifAccepted k Refused (pick b (pick d (placedBy (lies (touch cs) (facesIn t) q)) (Refused (refusal 7 0))) (Refused (refusal 6 0))) ≡ placed cs t q
-placed-is cs t q e u r = sym (λ j. ifAccepted (e j) Refused (pick (u j) (pick (r j) (placedBy (lies (touch cs) (facesIn t) q)) (Refused (refusal 7 0))) (Refused (refusal 6 0))))
+    → ifAccepted k Refused (pick b (pick d (placedBy (lies (touch cs) (facesIn t) q)) (Refused (because placeOutOfRange))) (Refused (because noSuchFace))) ≡ placed cs t q
+placed-is cs t q e u r = sym (λ j. ifAccepted (e j) Refused (pick (u j) (pick (r j) (placedBy (lies (touch cs) (facesIn t) q)) (Refused (because placeOutOfRange))) (Refused (because noSuchFace))))
 
 module _ (cs : List ℤ) (t : List ℕ) (q : Point) where
   pub place-refused : {x : Refusal} → checked cs ≡ CheckedRefused x → Refused x ≡ placed cs t q
   place-refused e = placed-is cs t q e refl refl
 
   module _ {l : TouchList} (e : checked cs ≡ Accepted l) where
-    pub place-unusable : usable (touchCount cs) t ≡ false → {x : Refusal} → x ≡ refusal 6 0 → Refused x ≡ placed cs t q
+    pub place-unusable : usable (touchCount cs) t ≡ false → {x : Refusal} → x ≡ because noSuchFace → Refused x ≡ placed cs t q
     place-unusable u x = ap Refused x ∙ placed-is cs t q e u refl
 
-    pub place-far : usable (touchCount cs) t ≡ true → placeInRange q ≡ false → {x : Refusal} → x ≡ refusal 7 0 → Refused x ≡ placed cs t q
+    pub place-far : usable (touchCount cs) t ≡ true → placeInRange q ≡ false → {x : Refusal} → x ≡ because placeOutOfRange → Refused x ≡ placed cs t q
     place-far u r x = ap Refused x ∙ placed-is cs t q e u r
 
     pub place-looked : usable (touchCount cs) t ≡ true → placeInRange q ≡ true → {x : Placed} → x ≡ placedBy (lies (touch cs) (facesIn t) q) → x ≡ placed cs t q

@@ -1,14 +1,18 @@
 -- The faces of a table as touch after touch is taken: they stay faces over the touches, and there is room for them.
-use mathlib.Core.Path.{_≡_, refl, sym, ap, _∙_}
-use mathlib.Core.Bool.{true, false}
+use mathlib.Core.Path.{_≡_, refl, sym, ap, subst, _∙_}
+use mathlib.Core.Logic.{_⊎_, inl, inr}
+use mathlib.Core.Bool.{true, false, not, _&&_}
 use mathlib.Core.List.{List, []}
 use mathlib.Core.Option.{Option, none, some}
-use Prim.Native.Nat.{ℕ, _+_, _<_, _≤_}
+use Prim.Native.Nat.{ℕ, zero, suc, _+_, _-_, _<_, _≤_}
 use native.Mathlib.Omega.{arith}
+use borrow.Author.Tests.{ltb-false}
+use lib.Dec.{T, ltb, ltb→lt}
 use lib.IntN.{ℤ}
 use lib.ListN.{length, take, getD}
 use lib.Seq.{getD-take}
 use Rattle.laws.specs.Lists.{In, Laid}
+use Rattle.laws.proofs.Tests.{T-or, is-true, is-false, T-of, and-both}
 use Rattle.laws.proofs.Members.{getD-in}
 use Rattle.laws.proofs.Tables.{laid-first}
 use Rattle.touches.specs.Limits.{mostFaces}
@@ -18,10 +22,13 @@ use Rattle.rules.specs.Start.{start, corners, startFaces, isStart, Start as Fou
 use Rattle.rules.specs.Building.{step, build, after, others}
 use Rattle.rules.proofs.AfterLaws.{others-upto, after-skip, after-step, hull-none}
 use Rattle.rules.proofs.Theorems.{start-order, steps-corners, steps-most, accepted-few}
-use Rattle.hull.specs.Start.{startOf, startedOf, KnownStart}
+use Rattle.rules.specs.Demands.{FaceOf}
+use Rattle.border.specs.Cone.{Poured}
+use Rattle.hull.specs.Start.{startOf, startedOf, nextOther, KnownStart}
 use Rattle.hull.specs.Build.{hullOf}
 use Rattle.hull.specs.Whole.{Planed}
-use Rattle.hull.specs.Inner.{FaceOf, Ready, Begun, Poured, Taken, Held, Tables}
+use Rattle.hull.specs.Inner.{Ready, Begun, Taken, Held, Tables}
+use Rattle.hull.proofs.OtherLaws.{Next, next-first, next-after, next-within}
 use Rattle.hull.proofs.StepLaws.{marks-kept}
 use Rattle.hull.specs.declared.start.Start.{Start}
 use Rattle.hull.specs.declared.start.Started.the-variants.{Flat, From}
@@ -34,14 +41,15 @@ module _ {cs : List ℤ} {s : Four} (b : Begun cs s) {k : ℕ} (l : k ≤ touchC
   after-few : length (after (touch cs) s (others s k)) ≤ mostFaces
   after-few = steps-most (touch cs) (touchCount cs) (b .begins) (others s k) (others-upto s l) (accepted-few (b .sound))
 
+-- ---- a touch of the start
+taken-skip : {cs : List ℤ} {s : Four} {k m : ℕ} {table : List Face} {planes : List (List ℤ)} → Taken cs s k m table planes → isStart s k ≡ true → Taken cs s (k + 1) m table planes
+taken-skip {cs} {s} {k} t e = let h = after-skip (touch cs) s k e in record { count = t .count ∙ ap length (sym h); faces = t .faces ∙ sym h; planed = t .planed }
+
 -- ---- one touch
 module _ {cs : List ℤ} {s : Four} (b : Begun cs s) {k m : ℕ} {table : List Face} {planes : List (List ℤ)} where
   module _ (t : Taken cs s k m table planes) where
     pub taken-ready : {j : ℕ} → k ≤ touchCount cs → j < touchCount cs → Ready cs (take m table) j
     taken-ready l h = rw (t .faces) (record { sound = b .sound; faces = after-faces b l; touch = h })
-
-    taken-skip : isStart s k ≡ true → Taken cs s (k + 1) m table planes
-    taken-skip e = let h = after-skip (touch cs) s k e in record { count = t .count ∙ ap length (sym h); faces = t .faces ∙ sym h; planed = t .planed }
 
     module _ (l : k < touchCount cs) (e : isStart s k ≡ false) where
       step-is : step (touch cs) (take m table) k ≡ after (touch cs) s (others s (k + 1))
@@ -58,18 +66,53 @@ module _ {cs : List ℤ} {s : Four} (b : Begun cs s) {k m : ℕ} {table : List F
             omega (arith, n, g .fits (omega (arith, n, f)), f);
       }
 
-  module _ (h : Held cs s k m table planes) where
-    pub held-skip : isStart s k ≡ true → Held cs s (k + 1) m table planes
-    held-skip e = record { most = h .most; taken = λ u. taken-skip (h .taken u) e; room = h .room }
+  -- where the table is full nothing is said
+  pub held-full : Held cs s k m table planes → {n : ℕ} → length table ≤ m → Held cs s n m table planes
+  held-full h e = record { most = h .most; taken = λ u. absurd (omega arith); room = h .room }
 
-    -- where the table is full nothing is said
-    pub held-full : m ≡ length table → Held cs s (k + 1) m table planes
-    held-full e = record { most = h .most; taken = λ u. absurd (omega arith); room = h .room }
+  -- the touches from k on up to the next one that is not of the start
+  taken-run : Taken cs s k m table planes → (d : ℕ) → ((j : ℕ) → k ≤ j → j < k + d → isStart s j ≡ true) → Taken cs s (k + d) m table planes
+  taken-run t zero f = let e : k ≡ k + 0 = omega arith in subst (λ (i : ℕ). Taken cs s i m table planes) e t
+  taken-run t (suc d) f =
+      let e : k + d + 1 ≡ k + suc d = omega arith in
+      subst (λ (i : ℕ). Taken cs s i m table planes) e (taken-skip (taken-run t d (λ j a l. f j a (omega arith))) (f (k + d) (omega arith) (omega arith)))
+
+  pub held-next : Held cs s k m table planes → {r : ℕ} → Next s k r → Held cs s r m table planes
+  held-next h {r} o = record { most = h .most; taken = λ u. go (h .taken u); room = h .room }
+    where
+      e : k + (r - k) ≡ r
+      e = omega (arith, o .from)
+
+      go : Taken cs s k m table planes → Taken cs s r m table planes
+      go t = subst (λ (i : ℕ). Taken cs s i m table planes) e (taken-run t (r - k) (λ j a l. o .skipped j a (omega (arith, e))))
+
+-- the next touch that is not of the start
+module _ {cs : List ℤ} {s : Four} (b : Begun cs s) where
+  pub begun-first : {r : ℕ} → r ≡ nextOther s 1 → Next s 0 r
+  begun-first e = let o = start-order (touch cs) (touchCount cs) (b .begins) in rw e (next-first s (omega (arith, o)) (omega (arith, o)) (omega (arith, o)) (omega (arith, o)))
+
+  pub begun-next : (k : ℕ) {r : ℕ} → r ≡ nextOther s (k + 1) → Next s (k + 1) r
+  begun-next k e = let o = start-order (touch cs) (touchCount cs) (b .begins) in rw e (next-after s (omega (arith, o)) (omega (arith, o)) (omega (arith, o)) {k = k + 1} (omega (arith, o)))
+
+  pub begun-within : {k r : ℕ} → Next s k r → k ≤ touchCount cs → r ≤ touchCount cs
+  begun-within h l = let o = start-order (touch cs) (touchCount cs) (b .begins) in next-within s (omega (arith, o)) (omega (arith, o)) (omega (arith, o)) (omega (arith, o)) h l
+
+-- the loop's test: there is a touch left, and the table is not full
+pub goes-on : (k n m l : ℕ) → ltb k n && ltb m l ≡ true → (k < n) × (m < l)
+goes-on k n m l e = let t = and-both (ltb k n) (ltb m l) (T-of e) in (ltb→lt k n (t .0), ltb→lt m l (t .1))
+
+-- where it fails the touches below n are taken
+pub held-end : {cs : List ℤ} {s : Four} {k n m : ℕ} {table : List Face} {planes : List (List ℤ)} → Begun cs s → Held cs s k m table planes → k ≤ n → ltb k n && ltb m (length table) ≡ false → Held cs s n m table planes
+held-end {cs} {s} {k} {n} {m} {table} {planes} b h l e = go (T-or (ltb k n))
+  where
+    go : T (ltb k n) ⊎ T (not (ltb k n)) → Held cs s n m table planes
+    go (inl t) = held-full b h (ltb-false m (length table) (rw (is-true (ltb k n) t) at e))
+    go (inr t) = let q : k ≡ n = omega (arith, ltb-false k n (is-false (ltb k n) t)) in subst (λ (i : ℕ). Held cs s i m table planes) q h
 
 -- the tables keep their lengths
-pub tables-kept : {cs : List ℤ} {w : ℕ} {table table' seen seen' : List Face} {planes planes' : List (List ℤ)} {marks marks' : List ℕ} → Tables cs w table planes seen marks
-    → length table' ≡ length table → length planes' ≡ length planes → length seen' ≡ length seen → length marks' ≡ length marks → Tables cs w table' planes' seen' marks'
-tables-kept t a b c d = record { planes-long = omega (arith, t .planes-long, a, b); seen-long = omega (arith, t .seen-long, a, c); mark-table = marks-kept (t .mark-table) d; touches = t .touches }
+pub tables-kept : {cs : List ℤ} {table table' seen seen' : List Face} {planes planes' : List (List ℤ)} {marks marks' : List ℕ} → Tables cs table planes seen marks
+    → length table' ≡ length table → length planes' ≡ length planes → length seen' ≡ length seen → length marks' ≡ length marks → Tables cs table' planes' seen' marks'
+tables-kept t a b c d = record { planes-long = omega (arith, t .planes-long, a, b); seen-long = omega (arith, t .seen-long, a, c); mark-table = marks-kept (t .mark-table) d }
 
 -- ---- the start
 start-some : (o : Option Four) {f : Start} → From f ≡ startedOf o → o ≡ some (startOf f)

@@ -13,13 +13,15 @@ use Rattle.laws.proofs.Tables.{laid-before, laid-first}
 use Rattle.touches.specs.Touches.{touch, touchCount}
 use Rattle.rules.specs.Faces.{Face, visible, border}
 use Rattle.rules.specs.Building.{cone, seen, unseen, step}
-use Rattle.rules.specs.Demands.{CornersIn}
+use Rattle.rules.specs.Demands.{CornersIn, FaceOf}
 use Rattle.rules.proofs.FaceLaws.{corners-map}
 use Rattle.rules.proofs.StepLaws.{step-corners}
-use Rattle.hull.specs.Marks.{MarkTable}
-use Rattle.hull.specs.Whole.{planeOn, Planed}
-use Rattle.hull.specs.Inner.{FaceOf, Ready, PartOf, Poured}
-use Rattle.hull.proofs.PourLaws.{pour-laid, pour-then}
+use Rattle.border.specs.Marks.{MarkTable}
+use Rattle.border.specs.Cone.{Poured}
+use Rattle.border.proofs.PourLaws.{pour-laid, pour-then}
+use Rattle.points.specs.Whole.{planeOn}
+use Rattle.hull.specs.Whole.{Planed}
+use Rattle.hull.specs.Inner.{Ready, PartOf}
 
 module _ {cs : List ℤ} {h : List Face} {k m s : ℕ} {old mid front : List Face} (q : PartOf cs h k old m mid s front) where
   pub front-few : s ≤ length h

@@ -1,69 +1,48 @@
 -- V read from a face's plane, and planes put beside their faces one after another.
 use mathlib.Core.Path.{_≡_, sym, ap, subst, _∙_}
 use mathlib.Core.Logic.{_⊎_, inl, inr, _≢_}
-use mathlib.Core.Bool.{Bool, true, false, not}
+use mathlib.Core.Bool.{Bool, true, false}
 use mathlib.Core.List.{List, []}
-use Prim.Native.Nat.{ℕ, _+_, _*_, _<_, _≤_}
+use Prim.Native.Nat.{ℕ, _+_, _*_, _<_}
 use native.Mathlib.Omega.{arith}
-use lib.Dec.{T, T-not, eqb, eqb→eq, eqb-refl, lit≤}
 use lib.IntN.{ℤ, pos}
 use lib.ListN.{length, getD, set}
 use lib.Signed.{ltZ}
 use lib.Seq.{getD-set-same, getD-set-other}
 use Rattle.laws.specs.Numbers.{Within}
 use Rattle.laws.specs.Lists.{onlyIf, lay}
-use Rattle.laws.proofs.Tests.{T-or}
+use Rattle.laws.proofs.Tests.{same-or}
 use Rattle.laws.proofs.Tables.{lay-none, lay-one, length-only}
-use Rattle.laws.proofs.WithinLaws.{within-more}
 use Rattle.touches.specs.declared.Point.{Point}
-use Rattle.touches.specs.Touches.{touch, Sound, Near, Small}
+use Rattle.touches.specs.Touches.{touch, Sound, Near}
 use Rattle.touches.proofs.SoundLaws.{touch-near}
-use Rattle.volume.specs.Volume.{offset}
-use Rattle.volume.proofs.Axes.{X, Y, Z}
+use Rattle.volume.specs.Volume.{mostVolume}
 use Rattle.volume.proofs.VolumeLaws.{vol-within}
-use Rattle.volume.proofs.PlaneLaws.{plane-vol, normal-within, dot-within}
+use Rattle.volume.proofs.PlaneLaws.{plane-vol}
 use Rattle.rules.specs.Faces.{Face, Places, corner, faceVol}
-use Rattle.hull.specs.Sizes.{mostGap, mostDot, Number}
-use Rattle.hull.specs.Inner.{FaceOf}
-use Rattle.hull.specs.Whole.{wholePlane, planeOn, readAt, PlaneNear, FirstFront, PlanedAt, Planed}
-
-pub gap-near : {q : Point} → Near q → Small mostGap q
-gap-near h = let l : 30000 ≤ mostGap = lit≤ tt in record { x = within-more l (h .x); y = within-more l (h .y); z = within-more l (h .z) }
+use Rattle.rules.specs.Demands.{FaceOf}
+use Rattle.points.specs.Sizes.{Number}
+use Rattle.points.specs.Whole.{planeOn, PlaneNear}
+use Rattle.points.proofs.PlaneLaws.{plane-near}
+use Rattle.hull.specs.Whole.{readAt, FirstFront, PlanedAt, Planed}
 
 pub read-is : (p : Places) (f : Face) (q : Point) → readAt (planeOn p f) q ≡ faceVol p f q
 unfolding faceVol
 read-is p f q = sym (plane-vol (p (corner f 0)) (p (corner f 1)) (p (corner f 2)) q)
-
-through-near : {a b c : Point} → Near a → Near b → Near c → PlaneNear (wholePlane a b c)
-unfolding offset
-through-near ha hb hc = record {
-  normal = record { x = normal-within ha hb hc X; y = normal-within ha hb hc Y; z = normal-within ha hb hc Z };
-  offset = within-more (lit≤ tt) (dot-within ha hb hc ha);
-}
-
-pub plane-near : {cs : List ℤ} {f : Face} → Sound cs → FaceOf cs f → PlaneNear (planeOn (touch cs) f)
-plane-near {cs} {f} s o = through-near (touch-near s (corner f 0) (o .a)) (touch-near s (corner f 1) (o .b)) (touch-near s (corner f 2) (o .c))
 
 -- of a plane of a table
 module _ {cs : List ℤ} {faces : List Face} {planes : List (List ℤ)} {j : ℕ} (e : PlanedAt cs faces planes j) (s : Sound cs) (o : FaceOf cs (getD faces j [])) where
   pub planed-near : PlaneNear (getD planes j [])
   planed-near = rw (e .is) (plane-near {f = getD faces j []} s o)
 
-  pub planed-number : {q : Point} {r : ℤ} → Near q → Number (2 * mostDot) (readAt (getD planes j []) q) r → Number mostDot (faceVol (touch cs) (getD faces j []) q) r
+  pub planed-number : {q : Point} {r : ℤ} → Near q → Number (2 * mostVolume) (readAt (getD planes j []) q) r → Number mostVolume (faceVol (touch cs) (getD faces j []) q) r
   unfolding faceVol
   planed-number {q} {r} h n =
       let f = getD faces j [] in
       let v : r ≡ faceVol (touch cs) f q = n .is ∙ ap (λ (w : List ℤ). readAt w q) (e .is) ∙ read-is (touch cs) f q in
-      record { is = v; small = subst (Within mostDot) (sym v) (vol-within (touch-near s (corner f 0) (o .a)) (touch-near s (corner f 1) (o .b)) (touch-near s (corner f 2) (o .c)) h) }
+      record { is = v; small = subst (Within mostVolume) (sym v) (vol-within (touch-near s (corner f 0) (o .a)) (touch-near s (corner f 1) (o .b)) (touch-near s (corner f 2) (o .c)) h) }
 
 -- ---- a plane stored at place i
-same-or : (j i : ℕ) → (j ≡ i) ⊎ (j ≢ i)
-same-or j i = go (T-or (eqb j i))
-  where
-    go : T (eqb j i) ⊎ T (not (eqb j i)) → (j ≡ i) ⊎ (j ≢ i)
-    go (inl t) = inl (eqb→eq j i t)
-    go (inr t) = inr (λ e. absurd (T-not (eqb j i) t (subst (λ (x : ℕ). T (eqb j x)) e (eqb-refl j))))
-
 pub planed-none : (cs : List ℤ) (faces : List Face) (planes : List (List ℤ)) → Planed cs 0 faces planes
 planed-none cs faces planes = record { each = λ j h. absurd (omega arith) }
 

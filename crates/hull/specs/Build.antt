@@ -7,11 +7,12 @@ use lib.IntN.{ℤ, pos}
 use lib.ListN.{length}
 use Rattle.laws.specs.Lists.{lay}
 use Rattle.touches.specs.declared.Refusal.{Refusal}
-use Rattle.touches.specs.Touches.{touch, touchCount, refusal}
+use Rattle.touches.specs.Touches.{touch, touchCount}
+use Rattle.touches.specs.Refusals.{allTouchesOnOnePlane, faceTableTooSmall, because, noRefusal}
 use Rattle.touches.specs.Check.{pick, checked, ifAccepted}
 use Rattle.rules.specs.Faces.{Face, Places}
 use Rattle.rules.specs.Building.{hull, volume}
-use Rattle.hull.specs.Table.{room, lent}
+use Rattle.table.specs.Table.{room, lent}
 use Rattle.hull.specs.declared.build.Built.{Built}
 use Rattle.hull.specs.declared.build.Built.the-variants.{Hull, Refused}
 
@@ -21,8 +22,8 @@ hullOf cs = hull (touch cs) (touchCount cs)
 
 -- refusals 4 and 5, the table having room for n faces
 abbrev pub builtFrom : Places → ℕ → Option (List Face) → Built
-builtFrom p n none = Refused (refusal 4 0)
-builtFrom p n (some h) = pick (leb (length h) n) (Hull (length h) (volume p h)) (Refused (refusal 5 0))
+builtFrom p n none = Refused (because allTouchesOnOnePlane)
+builtFrom p n (some h) = pick (leb (length h) n) (Hull (length h) (volume p h)) (Refused (because faceTableTooSmall))
 
 -- refusals 1, 2, 3, 4, 5; else face count and volume
 abbrev pub built : List ℤ → List ℕ → Built
@@ -36,7 +37,7 @@ tableAfter (Refused r) h old = old
 
 -- the paper's number and place of each answer, 0 where the call succeeds, and its values, 0 where it is refused
 abbrev pub builtRefusal : Built → Refusal
-builtRefusal (Hull n v) = refusal 0 0
+builtRefusal (Hull n v) = noRefusal
 builtRefusal (Refused r) = r
 
 abbrev pub builtCount : Built → ℕ

@@ -1,36 +1,33 @@
 -- What the inner steps of building and placing take for granted, and what they leave.
 use mathlib.Core.Path.{_≡_}
 use mathlib.Core.Bool.{Bool}
-use mathlib.Core.List.{List, map}
-use mathlib.Core.Option.{some}
-use Prim.Native.Nat.{ℕ, _+_, _<_, _≤_}
+use mathlib.Core.List.{List}
+use mathlib.Core.Option.{Option, some}
+use Prim.Native.Nat.{ℕ, _<_, _≤_}
 use lib.IntN.{ℤ, pos}
 use lib.Signed.{ltZ}
 use lib.ListN.{length, take}
-use Rattle.laws.specs.Lists.{In, onlyIf, keep, Laid}
+use Rattle.laws.specs.Lists.{In, Laid}
 use Rattle.touches.specs.declared.Point.{Point}
 use Rattle.touches.specs.declared.FaceNo.{FaceNo}
 use Rattle.touches.specs.Limits.{mostFaces}
 use Rattle.touches.specs.Touches.{touchCount, touch, Sound}
 use Rattle.touches.specs.Check.{pick}
-use Rattle.rules.specs.Faces.{Face, Side, faceVol, sides}
+use Rattle.rules.specs.Faces.{Face, faceVol}
 use Rattle.rules.specs.Start.{Start, start}
-use Rattle.rules.specs.Building.{cone, seen, unseen, after, others}
-use Rattle.rules.specs.Demands.{CornersIn}
-use Rattle.hull.specs.Marks.{MarkTable}
+use Rattle.rules.specs.Building.{seen, unseen, after, others}
+use Rattle.rules.specs.Demands.{FaceOf}
+use Rattle.table.specs.Table.{room}
+use Rattle.border.specs.Marks.{MarkTable}
 use Rattle.hull.specs.Whole.{Planed}
+use Rattle.hull.specs.Build.{hullOf, builtFrom, tableAfter}
+use Rattle.hull.specs.declared.build.Built.{Built}
+use Rattle.hull.specs.declared.rooms.Tried.{Tried}
+use Rattle.hull.specs.declared.rooms.Tried.the-variants.{Done, Full}
 use Rattle.hull.specs.declared.place.First.{First}
 use Rattle.hull.specs.declared.place.First.the-variants.{Nowhere, At}
 use Rattle.hull.specs.declared.place.Placed.{Placed}
 use Rattle.hull.specs.declared.place.Placed.the-variants.{Outside, On, Inside}
-
--- how many touches the smallest tables are for
-abbrev pub fewTouches : ℕ
-fewTouches = 8
-
--- a face over the touches cs
-abbrev pub FaceOf : List ℤ → Face → Type 0
-FaceOf cs f = CornersIn (λ k. k < touchCount cs) f
 
 -- q is strictly in front of face f
 abbrev pub inFront : List ℤ → Point → Face → Bool
@@ -47,20 +44,6 @@ pub record PartOf (cs : List ℤ) (h : List Face) (k : ℕ) (old : List Face) (m
   pub stay : Laid 0 (unseen (touch cs) h k) old m kept
   pub gone : take s front ≡ seen (touch cs) h k
   pub count : s ≡ length (seen (touch cs) h k)
-
--- the cone from k over side s, if it passes the test t
-abbrev pub coneSide : (Side → Bool) → ℕ → Side → List Face
-coneSide t k s = onlyIf (t s) (cone k s)
-
--- the cone over those sides of the faces w that pass
-unfoldable pub coneOn : (Side → Bool) → ℕ → List Face → List Face
-coneOn t k w = map (cone k) (keep t (sides w))
-
--- what a call did that laid new into the table old from place at on while there was room: r is the next free place, or the table's length where it is full
-pub record Poured {A : Type 0} (at : ℕ) (new old : List A) (r : ℕ) (after : List A) : Type 0 where
-  pub most : r ≤ length old
-  pub fits : at + length new < length old → r ≡ at + length new
-  pub laid : r < length old → Laid at new old r after
 
 -- the start of coordinates that passed refusals 1 to 3
 pub record Begun (cs : List ℤ) (s : Start) : Type 0 where
@@ -80,11 +63,20 @@ pub record Held (cs : List ℤ) (s : Start) (k m : ℕ) (table : List Face) (pla
   pub room : mostFaces < length table → m < length table
 
 -- tables to build in for the touches cs: one length for all but the marks
-pub record Tables (cs : List ℤ) (w : ℕ) (table : List Face) (planes : List (List ℤ)) (seen : List Face) (marks : List ℕ) : Type 0 where
+pub record Tables (cs : List ℤ) (table : List Face) (planes : List (List ℤ)) (seen : List Face) (marks : List ℕ) : Type 0 where
   pub planes-long : length planes ≡ length table
   pub seen-long : length seen ≡ length table
-  pub mark-table : MarkTable w marks
-  pub touches : touchCount cs ≤ w
+  pub mark-table : MarkTable (touchCount cs) marks
+
+-- what building gives and leaves in the lent table: one contract, whatever tables it works in; h is the face list
+pub record Builds (cs : List ℤ) (h : Option (List Face)) (old : List ℕ) (r : Built) (after : List ℕ) : Type 0 where
+  pub answer : r ≡ builtFrom (touch cs) (room old) h
+  pub table : after ≡ tableAfter r h old
+
+-- the same where the tables can be full: then there is no answer, and the lent table is as it was
+abbrev pub Tries : List ℤ → List ℕ → Tried → List ℕ → Type 0
+Tries cs old (Done r) after = Builds cs (hullOf cs) old r after
+Tries cs old Full after = after ≡ old
 
 -- the first face of a kind once f is looked at, b saying whether it is one
 abbrev pub earlier : First → FaceNo → Bool → First

@@ -1,13 +1,5 @@
-pub mod Sizes
 pub mod Whole
-pub mod Marks
-pub mod Table
-pub mod Inner
 pub mod Start
 pub mod Build
+pub mod Inner
 pub mod Place
-pub mod Doubles
-pub mod Planes
-pub mod Fractions
-pub mod Bounds
-pub mod Plumb

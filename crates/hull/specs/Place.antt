@@ -6,10 +6,11 @@ use Rattle.touches.specs.declared.FaceNo.{FaceNo}
 use Rattle.touches.specs.declared.Point.{Point}
 use Rattle.touches.specs.declared.Refusal.{Refusal}
 use Rattle.touches.specs.Limits.{placeInRange}
-use Rattle.touches.specs.Touches.{touch, touchCount, faceNo, refusal}
+use Rattle.touches.specs.Touches.{touch, touchCount, faceNo}
+use Rattle.touches.specs.Refusals.{noSuchFace, placeOutOfRange, because, noRefusal}
 use Rattle.touches.specs.Check.{pick, checked, ifAccepted}
 use Rattle.rules.specs.Placing.{Lies, outside, on, inside, lies}
-use Rattle.hull.specs.Table.{facesIn, usable}
+use Rattle.table.specs.Table.{facesIn, usable}
 use Rattle.hull.specs.declared.place.Placed.{Placed}
 use Rattle.hull.specs.declared.place.Placed.the-variants.{Outside, On, Inside, Refused}
 
@@ -23,14 +24,14 @@ abbrev pub placed : List ℤ → List ℕ → Point → Placed
 placed cs t q =
     ifAccepted (checked cs) Refused
     (pick (usable (touchCount cs) t)
-    (pick (placeInRange q) (placedBy (lies (touch cs) (facesIn t) q)) (Refused (refusal 7 0)))
-    (Refused (refusal 6 0)))
+    (pick (placeInRange q) (placedBy (lies (touch cs) (facesIn t) q)) (Refused (because placeOutOfRange)))
+    (Refused (because noSuchFace)))
 
 -- the paper's number and place of each answer, 0 where the call succeeds, and the face that it names, 0 where it names none
 abbrev pub placedRefusal : Placed → Refusal
-placedRefusal (Outside f) = refusal 0 0
-placedRefusal (On f) = refusal 0 0
-placedRefusal Inside = refusal 0 0
+placedRefusal (Outside f) = noRefusal
+placedRefusal (On f) = noRefusal
+placedRefusal Inside = noRefusal
 placedRefusal (Refused r) = r
 
 abbrev pub placedFace : Placed → FaceNo

@@ -1,7 +1,8 @@
 -- The search for the start, as the inner steps' contracts cite it.
-use mathlib.Core.Bool.{Bool, not}
+use mathlib.Core.Bool.{Bool, not, cond}
 use mathlib.Core.Option.{Option, none, some}
-use Prim.Native.Nat.{ℕ, _<_}
+use Prim.Native.Nat.{ℕ, _+_, _<_}
+use lib.Dec.{eqb, ltb}
 use Rattle.touches.specs.Touches.{touchNo}
 use Rattle.volume.specs.Volume.{Vol, inLine, isZero}
 use Rattle.rules.specs.Faces.{Places}
@@ -37,6 +38,14 @@ startedOf (some s) = From (record { p = touchNo (s .P); q = touchNo (s .Q); r = 
 
 abbrev pub startOf : Start → Four
 startOf s = record { P = s .p .0; Q = s .q .0; R = s .r .0; S = s .s .0 }
+
+-- number k, or the next one where k is t
+abbrev pub past : ℕ → ℕ → ℕ
+past k t = cond (eqb k t) (k + 1) k
+
+-- the first number from k on that is not of the start: P is 0 and below k, and Q, R and S rise
+abbrev pub nextOther : Four → ℕ → ℕ
+nextOther s k = cond (ltb (s .S) k) k (past (past (past k (s .Q)) (s .R)) (s .S))
 
 -- all four are below n
 pub record KnownStart (n : ℕ) (f : Start) : Type 0 where

@@ -2,10 +2,8 @@
 use crate::rooms::build_from;
 use crate::start::Started;
 use crate::start::find_start;
-use crate::table::put_faces;
-use crate::table::room;
-use crate::touch::touch;
 use crate::whole::read;
+use points::touch::touch;
 use touches::Checked;
 use touches::Refusal;
 use touches::TouchNo;
@@ -16,10 +14,9 @@ ghost use lib.ListN.{length};
 ghost use Rattle.touches.specs.Limits.{mostFaces};
 ghost use Rattle.touches.specs.Touches.{touch, touchCount, Sound};
 ghost use Rattle.rules.specs.Building.{volume};
-ghost use Rattle.hull.specs.Table.{room};
 ghost use Rattle.hull.specs.Whole.{Planed};
-ghost use Rattle.hull.specs.Inner.{Ready};
-ghost use Rattle.hull.specs.Build.{hullOf, builtFrom, built, tableAfter, builtRefusal, builtCount, builtVolume};
+ghost use Rattle.hull.specs.Inner.{Ready, Builds};
+ghost use Rattle.hull.specs.Build.{hullOf, built, tableAfter, builtRefusal, builtCount, builtVolume};
 
 pub enum Built {
     Hull(u16, i64),
@@ -81,26 +78,22 @@ pub(crate) fn write_hull(
 ) -> Built
     requires { ⌜ Ready (now coords) (now hull) 0 × Planed (now coords) (length (now hull)) (now hull) (now planes)
         × (length (now hull) ≤ length (now planes)) × (length (now hull) ≤ mostFaces) ⌝ }
-    ensures answer { λ r. ⌜ r ≡ builtFrom (touch (now (coords .entry))) (room (now (faces .entry))) (some (now (hull .entry))) ⌝ }
-    ensures table { λ r. ⌜ now (faces .exit) ≡ tableAfter r (some (now (hull .entry))) (now (faces .entry)) ⌝ }
+    ensures { λ r. ⌜ Builds (now (coords .entry)) (some (now (hull .entry))) (now (faces .entry)) r (now (faces .exit)) ⌝ }
 {
-    if room(faces) < hull.len() {
-        return Built::Refused(Refusal::because(5));
+    if !table::put_faces(faces, hull) {
+        return Built::Refused(Refusal::because(Refusal::FACE_TABLE_TOO_SMALL));
     }
-    let v = six_volume(coords, hull, planes);
-    put_faces(faces, hull);
-    Built::Hull(hull.len() as u16, v)
+    Built::Hull(hull.len() as u16, six_volume(coords, hull, planes))
 }
 
 // Building on coordinates of n touches that passed refusals 1 to 3: refusals 4, 5.
-pub(crate) fn build_checked(faces: &mut [u16], coords: &[i32], n: usize) -> Built
+fn build_checked(faces: &mut [u16], coords: &[i32], n: usize) -> Built
     requires { ⌜ Sound (now coords) × (n ≡ touchCount (now coords)) ⌝ }
-    ensures answer { λ r. ⌜ r ≡ builtFrom (touch (now (coords .entry))) (room (now (faces .entry))) (hullOf (now (coords .entry))) ⌝ }
-    ensures table { λ r. ⌜ now (faces .exit) ≡ tableAfter r (hullOf (now (coords .entry))) (now (faces .entry)) ⌝ }
+    ensures { λ r. ⌜ Builds (now (coords .entry)) (hullOf (now (coords .entry))) (now (faces .entry)) r (now (faces .exit)) ⌝ }
 {
     match find_start(coords, n) {
-        Started::Flat => Built::Refused(Refusal::because(4)),
-        Started::From(s) => build_from(faces, coords, n, s),
+        Started::Flat => Built::Refused(Refusal::because(Refusal::ALL_TOUCHES_ON_ONE_PLANE)),
+        Started::From(s) => build_from(faces, coords, s),
     }
 }
 

@@ -1,19 +1,19 @@
 // V and the sign test of a face, given by its touch numbers, and a point.
 use crate::four_corner::sign;
 use crate::four_corner::volume;
-use crate::touch::touch;
+use points::touch::touch;
 use touches::Point;
 use touches::TouchNo;
 ghost use mathlib.Core.Path.{_≡_};
 ghost use Rattle.touches.specs.Touches.{touch, Near, Sound};
-ghost use Rattle.volume.specs.Volume.{signOf};
+ghost use Rattle.volume.specs.Volume.{signOf, mostVolume};
 ghost use Rattle.rules.specs.Faces.{faceVol};
-ghost use Rattle.hull.specs.Sizes.{mostDot, Number};
-ghost use Rattle.hull.specs.Inner.{FaceOf};
+ghost use Rattle.rules.specs.Demands.{FaceOf};
+ghost use Rattle.points.specs.Sizes.{Number};
 
 fn face_volume(coords: &[i32], f: [u16; 3], q: Point) -> i64
     requires { ⌜ Sound (now coords) × FaceOf (now coords) f × Near q ⌝ }
-    ensures { λ r. ⌜ Number mostDot (faceVol (touch (now (coords .entry))) f q) r ⌝ }
+    ensures { λ r. ⌜ Number mostVolume (faceVol (touch (now (coords .entry))) f q) r ⌝ }
 {
     let a = touch(coords, TouchNo(f[0]));
     let b = touch(coords, TouchNo(f[1]));

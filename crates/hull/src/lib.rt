@@ -1,17 +1,11 @@
-// Hulls over a touch list: planes, building and placing.
-mod border;
+// Hulls over a touch list: V, building and placing.
 pub mod build;
 mod doubles;
 mod face;
 mod four_corner;
-mod fractions;
 pub mod place;
-pub mod planes;
-pub mod plumb;
 mod raise;
 mod rooms;
 mod start;
 mod step;
-pub mod table;
-mod touch;
 mod whole;

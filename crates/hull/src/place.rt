@@ -1,8 +1,5 @@
 // Where a place lies against a face table, hull or not.
 use crate::face::face_sign;
-use crate::table::face;
-use crate::table::is_usable;
-use crate::table::room;
 use touches::Checked;
 use touches::FaceNo;
 use touches::Point;
@@ -11,7 +8,7 @@ ghost use mathlib.Core.Path.{_≡_};
 ghost use mathlib.Core.Bool.{true};
 ghost use Rattle.touches.specs.Touches.{touch, touchCount, Near, Sound};
 ghost use Rattle.rules.specs.Placing.{lies};
-ghost use Rattle.hull.specs.Table.{facesIn, usable};
+ghost use Rattle.table.specs.Table.{facesIn, usable};
 ghost use Rattle.hull.specs.Inner.{earlier, settled};
 ghost use Rattle.hull.specs.Place.{placedBy, placed, placedRefusal, placedFace};
 
@@ -85,13 +82,13 @@ fn look(coords: &[i32], faces: &[u16], q: Point) -> Placed
     requires { ⌜ Sound (now coords) × (usable (touchCount (now coords)) (now faces) ≡ true) × Near q ⌝ }
     ensures { λ r. ⌜ r ≡ placedBy (lies (touch (now (coords .entry))) (facesIn (now (faces .entry))) q) ⌝ }
 {
-    let n = room(faces);
+    let n = table::room(faces);
     let mut front = First::Nowhere;
     let mut on = First::Nowhere;
     let mut i: usize = 0;
     while i < n {
         let f = FaceNo(i as u16);
-        let s = face_sign(coords, face(faces, f), q);
+        let s = face_sign(coords, table::face(faces, f), q);
         front = earlier(front, f, s < 0);
         on = earlier(on, f, s == 0);
         i += 1;
@@ -106,11 +103,11 @@ pub fn place(coords: &[i32], faces: &[u16], q: Point) -> Placed
     match touches::check(coords) {
         Checked::Refused(r) => Placed::Refused(r),
         Checked::Accepted(list) => {
-            if !is_usable(faces, list.count) {
-                return Placed::Refused(Refusal::because(6));
+            if !table::is_usable(faces, list.count) {
+                return Placed::Refused(Refusal::because(Refusal::NO_SUCH_FACE));
             }
             if !touches::place_in_range(q) {
-                return Placed::Refused(Refusal::because(7));
+                return Placed::Refused(Refusal::because(Refusal::PLACE_OUT_OF_RANGE));
             }
             look(coords, faces, q)
         }

@@ -4,13 +4,12 @@ use crate::build::write_hull;
 use crate::raise::raise;
 use crate::start::Start;
 use touches::TouchList;
-ghost use mathlib.Core.Path.{_≡_};
-ghost use Prim.Native.Nat.{_≤_};
-ghost use Rattle.touches.specs.Touches.{touch, touchCount};
-ghost use Rattle.hull.specs.Table.{room};
+ghost use Prim.Native.Nat.{_<_};
+ghost use lib.ListN.{length};
+ghost use Rattle.border.specs.Marks.{Fresh};
 ghost use Rattle.hull.specs.Start.{startOf};
-ghost use Rattle.hull.specs.Inner.{fewTouches, Begun};
-ghost use Rattle.hull.specs.Build.{hullOf, builtFrom, tableAfter};
+ghost use Rattle.hull.specs.Build.{hullOf};
+ghost use Rattle.hull.specs.Inner.{Begun, Tables, Builds, Tries};
 
 // How many touches the smallest tables are for.
 const FEW_TOUCHES: usize = 8;
@@ -28,89 +27,91 @@ const NO_PLANE: [i64; 4] = [0, 0, 0, 1];
 
 const NO_MARK: u16 = 1;
 
-// In tables for a few touches.
-fn build_few(faces: &mut [u16], coords: &[i32], n: usize, s: Start) -> Built
-    requires { ⌜ Begun (now coords) (startOf s) × (n ≡ touchCount (now coords)) × (n ≤ fewTouches) ⌝ }
-    ensures answer { λ r. ⌜ r ≡ builtFrom (touch (now (coords .entry))) (room (now (faces .entry))) (hullOf (now (coords .entry))) ⌝ }
-    ensures table { λ r. ⌜ now (faces .exit) ≡ tableAfter r (hullOf (now (coords .entry))) (now (faces .entry)) ⌝ }
-{
-    let mut table = [[0u16; 3]; FEW_FACES];
-    let mut planes = [NO_PLANE; FEW_FACES];
-    let mut seen = [[0u16; 3]; FEW_FACES];
-    let mut marks = [NO_MARK; FEW_TOUCHES * FEW_TOUCHES];
-    let m = raise(
-        &mut table,
-        &mut planes,
-        &mut seen,
-        &mut marks,
-        FEW_TOUCHES,
-        coords,
-        n,
-        s,
-    );
-    if m < FEW_FACES {
-        return write_hull(faces, coords, &table[..m], &planes);
-    }
-    build_all(faces, coords, n, s)
+// What building in some tables gave; where one of them was full, nothing.
+enum Tried {
+    Done(Built),
+    Full,
 }
 
-// In tables for as many faces as a hull has.
-fn build_many(faces: &mut [u16], coords: &[i32], n: usize, s: Start) -> Built
-    requires { ⌜ Begun (now coords) (startOf s) × (n ≡ touchCount (now coords)) ⌝ }
-    ensures answer { λ r. ⌜ r ≡ builtFrom (touch (now (coords .entry))) (room (now (faces .entry))) (hullOf (now (coords .entry))) ⌝ }
-    ensures table { λ r. ⌜ now (faces .exit) ≡ tableAfter r (hullOf (now (coords .entry))) (now (faces .entry)) ⌝ }
+// In the tables that are given.
+fn build_in(
+    faces: &mut [u16],
+    table: &mut [[u16; 3]],
+    planes: &mut [[i64; 4]],
+    seen: &mut [[u16; 3]],
+    marks: &mut [u16],
+    coords: &[i32],
+    s: Start,
+) -> Tried
+    requires { ⌜ Begun (now coords) (startOf s) × Tables (now coords) (now table) (now planes) (now seen) (now marks)
+        × Fresh 0 (now marks) × (4 < length (now table)) ⌝ }
+    ensures { λ r. ⌜ Tries (now (coords .entry)) (now (faces .entry)) r (now (faces .exit)) ⌝ }
 {
-    let mut table = [[0u16; 3]; MANY_FACES];
-    let mut planes = [NO_PLANE; MANY_FACES];
-    let mut seen = [[0u16; 3]; MANY_FACES];
-    let mut marks = [NO_MARK; TouchList::MOST * TouchList::MOST];
-    let m = raise(
-        &mut table,
-        &mut planes,
-        &mut seen,
-        &mut marks,
-        TouchList::MOST,
-        coords,
-        n,
-        s,
-    );
-    if m < MANY_FACES {
-        return write_hull(faces, coords, &table[..m], &planes);
+    let m = raise(table, planes, seen, marks, coords, s);
+    if m == table.len() {
+        return Tried::Full;
     }
-    build_all(faces, coords, n, s)
+    Tried::Done(write_hull(faces, coords, &table[..m], planes))
 }
 
 // In tables with room for every face list of every step.
-fn build_all(faces: &mut [u16], coords: &[i32], n: usize, s: Start) -> Built
-    requires { ⌜ Begun (now coords) (startOf s) × (n ≡ touchCount (now coords)) ⌝ }
-    ensures answer { λ r. ⌜ r ≡ builtFrom (touch (now (coords .entry))) (room (now (faces .entry))) (hullOf (now (coords .entry))) ⌝ }
-    ensures table { λ r. ⌜ now (faces .exit) ≡ tableAfter r (hullOf (now (coords .entry))) (now (faces .entry)) ⌝ }
+fn build_all(faces: &mut [u16], coords: &[i32], s: Start) -> Built
+    requires { ⌜ Begun (now coords) (startOf s) ⌝ }
+    ensures { λ r. ⌜ Builds (now (coords .entry)) (hullOf (now (coords .entry))) (now (faces .entry)) r (now (faces .exit)) ⌝ }
 {
     let mut table = [[0u16; 3]; ALL_FACES];
     let mut planes = [NO_PLANE; ALL_FACES];
     let mut seen = [[0u16; 3]; ALL_FACES];
     let mut marks = [NO_MARK; TouchList::MOST * TouchList::MOST];
-    let m = raise(
+    let m = raise(&mut table, &mut planes, &mut seen, &mut marks, coords, s);
+    write_hull(faces, coords, &table[..m], &planes)
+}
+
+// In tables for as many faces as a hull has.
+fn build_many(faces: &mut [u16], coords: &[i32], s: Start) -> Built
+    requires { ⌜ Begun (now coords) (startOf s) ⌝ }
+    ensures { λ r. ⌜ Builds (now (coords .entry)) (hullOf (now (coords .entry))) (now (faces .entry)) r (now (faces .exit)) ⌝ }
+{
+    let mut table = [[0u16; 3]; MANY_FACES];
+    let mut planes = [NO_PLANE; MANY_FACES];
+    let mut seen = [[0u16; 3]; MANY_FACES];
+    let mut marks = [NO_MARK; TouchList::MOST * TouchList::MOST];
+    match build_in(
+        faces,
         &mut table,
         &mut planes,
         &mut seen,
         &mut marks,
-        TouchList::MOST,
         coords,
-        n,
         s,
-    );
-    write_hull(faces, coords, &table[..m], &planes)
+    ) {
+        Tried::Done(r) => r,
+        Tried::Full => build_all(faces, coords, s),
+    }
 }
 
-// Building from the start, in tables that fit the n touches.
-pub(crate) fn build_from(faces: &mut [u16], coords: &[i32], n: usize, s: Start) -> Built
-    requires { ⌜ Begun (now coords) (startOf s) × (n ≡ touchCount (now coords)) ⌝ }
-    ensures answer { λ r. ⌜ r ≡ builtFrom (touch (now (coords .entry))) (room (now (faces .entry))) (hullOf (now (coords .entry))) ⌝ }
-    ensures table { λ r. ⌜ now (faces .exit) ≡ tableAfter r (hullOf (now (coords .entry))) (now (faces .entry)) ⌝ }
+// Building from the start: for a few touches in small tables.
+pub(crate) fn build_from(faces: &mut [u16], coords: &[i32], s: Start) -> Built
+    requires { ⌜ Begun (now coords) (startOf s) ⌝ }
+    ensures { λ r. ⌜ Builds (now (coords .entry)) (hullOf (now (coords .entry))) (now (faces .entry)) r (now (faces .exit)) ⌝ }
 {
-    if n <= FEW_TOUCHES {
-        return build_few(faces, coords, n, s);
+    if FEW_TOUCHES < coords.len() / 3 {
+        return build_many(faces, coords, s);
     }
-    build_many(faces, coords, n, s)
+    let mut table = [[0u16; 3]; FEW_FACES];
+    let mut planes = [NO_PLANE; FEW_FACES];
+    let mut seen = [[0u16; 3]; FEW_FACES];
+    let mut marks = [NO_MARK; FEW_TOUCHES * FEW_TOUCHES];
+    match build_in(
+        faces,
+        &mut table,
+        &mut planes,
+        &mut seen,
+        &mut marks,
+        coords,
+        s,
+    ) {
+        Tried::Done(r) => r,
+        Tried::Full => build_all(faces, coords, s),
+    }
 }

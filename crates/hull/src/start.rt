@@ -1,7 +1,7 @@
 // The start: P, Q, R and S, and the four faces over A, B, C and D.
-use crate::four_corner::in_line;
 use crate::four_corner::volume;
-use crate::touch::touch;
+use points::touch::touch;
+use points::vectors::in_line;
 use touches::Point;
 use touches::TouchNo;
 ghost use mathlib.Core.Path.{_≡_};
@@ -10,8 +10,8 @@ ghost use Prim.Native.Nat.{_<_, _≤_};
 ghost use lib.ListN.{length, getD};
 ghost use Rattle.laws.specs.Lists.{first, upward, Laid};
 ghost use Rattle.touches.specs.Touches.{touch, touchCount, Sound};
-ghost use Rattle.rules.specs.Start.{samePlace, start, corners, startFaces, isStart};
-ghost use Rattle.hull.specs.Start.{suits, Known, foundOf, startOf, startedOf, KnownStart};
+ghost use Rattle.rules.specs.Start.{samePlace, start, corners, startFaces};
+ghost use Rattle.hull.specs.Start.{suits, Known, foundOf, startOf, startedOf, past, nextOther, KnownStart};
 
 // The starting faces, by place among A, B, C, D.
 const START: [[usize; 3]; 4] = [[0, 1, 2], [0, 3, 1], [1, 3, 2], [2, 3, 0]];
@@ -95,10 +95,27 @@ pub(crate) fn find_start(coords: &[i32], n: usize) -> Started
     })
 }
 
-pub(crate) fn is_start(s: Start, k: TouchNo) -> bool
-    ensures { λ r. ⌜ r ≡ isStart (startOf s) (k .0) ⌝ }
+// Number k, or the next one where k is t.
+fn past(k: usize, t: TouchNo) -> usize
+    ensures { λ r. ⌜ r ≡ past k (t .0) ⌝ }
 {
-    (k.0 == s.p.0) | ((k.0 == s.q.0) | ((k.0 == s.r.0) | (k.0 == s.s.0)))
+    let n = t.0;
+    if k == n as usize {
+        return k + 1;
+    }
+    k
+}
+
+// The first touch from number k on that is not of the start. P is touch 0, which is never asked about; Q, R and S rise, so that
+// a touch after S needs one look.
+pub(crate) fn next_other(s: Start, k: usize) -> usize
+    ensures { λ r. ⌜ r ≡ nextOther (startOf s) k ⌝ }
+{
+    let last = s.s.0;
+    if (last as usize) < k {
+        return k;
+    }
+    past(past(past(k, s.q), s.r), s.s)
 }
 
 // A, B, C, D.

@@ -1,33 +1,25 @@
-// The plane of a face in whole numbers: once it is known, V takes three products.
-use crate::four_corner::dot;
-use crate::four_corner::normal;
+// The planes that building keeps beside its faces: once a plane is known, V takes three products.
 use crate::four_corner::sign;
-use crate::touch::touch;
+use points::vectors::dot;
+use points::whole::plane_on;
 use touches::Point;
-use touches::TouchNo;
 ghost use mathlib.Core.Path.{_≡_};
 ghost use mathlib.Core.List.{[]};
 ghost use Prim.Native.Nat.{ℕ, _*_, _<_, _≤_};
 ghost use lib.IntN.{pos};
 ghost use lib.ListN.{length, getD};
 ghost use lib.Signed.{ltZ};
-ghost use Rattle.touches.specs.Touches.{touch, Near, Sound};
-ghost use Rattle.hull.specs.Sizes.{mostDot, Number};
-ghost use Rattle.hull.specs.Inner.{FaceOf};
-ghost use Rattle.hull.specs.Whole.{wholePlane, planeOn, readAt, PlaneNear, FirstFront, Planed};
-
-fn through(a: Point, b: Point, c: Point) -> [i64; 4]
-    requires { ⌜ Near a × Near b × Near c ⌝ }
-    ensures { λ r. ⌜ r ≡ wholePlane a b c ⌝ }
-{
-    let n = normal(a, b, c);
-    [n.x, n.y, n.z, dot(n, a)]
-}
+ghost use Rattle.touches.specs.Touches.{Near, Sound};
+ghost use Rattle.volume.specs.Volume.{mostVolume};
+ghost use Rattle.rules.specs.Demands.{FaceOf};
+ghost use Rattle.points.specs.Sizes.{Number};
+ghost use Rattle.points.specs.Whole.{PlaneNear};
+ghost use Rattle.hull.specs.Whole.{readAt, FirstFront, Planed};
 
 // V of the face whose plane p is, and q.
 pub(crate) fn read(p: [i64; 4], q: Point) -> i64
     requires { ⌜ PlaneNear p × Near q ⌝ }
-    ensures { λ r. ⌜ Number (2 * mostDot) (readAt p q) r ⌝ }
+    ensures { λ r. ⌜ Number (2 * mostVolume) (readAt p q) r ⌝ }
 {
     let n = Point {
         x: p[0],
@@ -58,16 +50,6 @@ pub(crate) fn first_in_front(planes: &[[i64; 4]], n: usize, q: Point) -> usize
         i += 1;
     }
     n
-}
-
-pub(crate) fn plane_on(coords: &[i32], f: [u16; 3]) -> [i64; 4]
-    requires { ⌜ Sound (now coords) × FaceOf (now coords) f ⌝ }
-    ensures { λ r. ⌜ r ≡ planeOn (touch (now (coords .entry))) f ⌝ }
-{
-    let a = touch(coords, TouchNo(f[0]));
-    let b = touch(coords, TouchNo(f[1]));
-    let c = touch(coords, TouchNo(f[2]));
-    through(a, b, c)
 }
 
 // The planes of the faces from number start up to n, beside those before them.

@@ -7,7 +7,7 @@ use native.Mathlib.Numerals.{add-one}
 use native.Mathlib.Omega.{arith}
 use lib.ListN.{List·getD-append, length, take, drop, getD, set, length-append, length-take, length-drop, take-append-drop}
 use lib.Seq.{sets, sets-eq, take-suc, set-split, append-snoc, length-take-le, take-at, drop-at, getD-drop, getD-append-add, getD-take, take-append-seam, drop-drop}
-use Rattle.laws.specs.Lists.{put, onlyIf, keep, lay, Laid}
+use Rattle.laws.specs.Lists.{onlyIf, keep, lay, Laid}
 use Rattle.laws.proofs.Members.{keep-append, length-keep}
 
 -- ---- lay

@@ -1,8 +1,9 @@
 -- Boolean tests by their two answers.
-use mathlib.Core.Path.{_≡_, refl}
-use mathlib.Core.Logic.{_⊎_, inl, inr}
+use mathlib.Core.Path.{_≡_, refl, subst}
+use mathlib.Core.Logic.{_⊎_, inl, inr, _≢_}
 use mathlib.Core.Bool.{Bool, true, false, not, cond, _&&_, _||_}
-use lib.Dec.{T}
+use Prim.Native.Nat.{ℕ}
+use lib.Dec.{T, T-not, eqb, eqb→eq, eqb-refl}
 
 pub by-test {ℓ} : {X : Type 0} (c : Bool) (x y : X) (P : X → Type ℓ) → (T c → P x) → (T (not c) → P y) → P (cond c x y)
 by-test true x y P f g = f tt
@@ -11,6 +12,14 @@ by-test false x y P f g = g tt
 pub T-or : (b : Bool) → T b ⊎ T (not b)
 T-or true = inl tt
 T-or false = inr tt
+
+-- two numbers are one or they differ
+pub same-or : (j i : ℕ) → (j ≡ i) ⊎ (j ≢ i)
+same-or j i = go (T-or (eqb j i))
+  where
+    go : T (eqb j i) ⊎ T (not (eqb j i)) → (j ≡ i) ⊎ (j ≢ i)
+    go (inl t) = inl (eqb→eq j i t)
+    go (inr t) = inr (λ e. absurd (T-not (eqb j i) t (subst (λ (x : ℕ). T (eqb j x)) e (eqb-refl j))))
 
 pub is-true : (b : Bool) → T b → b ≡ true
 is-true true t = refl

@@ -9,9 +9,9 @@ use lib.Seq.{take-suc}
 use Rattle.laws.specs.Lists.{lay, Laid}
 use Rattle.laws.proofs.Tables.{laid-then}
 use Rattle.rules.specs.Faces.{Face}
-use Rattle.hull.specs.Table.{room, numbers, lent, faceAt, facesIn}
-use Rattle.hull.proofs.TableLaws.{length-faces, face-at}
-use Rattle.hull.proofs.LentLaws.{room-laid, faces-laid}
+use Rattle.table.specs.Table.{room, numbers, lent, faceAt, facesIn}
+use Rattle.table.proofs.TableLaws.{length-faces, face-at}
+use Rattle.table.proofs.LentLaws.{room-laid, faces-laid}
 use Rattle.lister.specs.Listing.{faceLine, faceLines}
 
 lines-append : (g h : List Face) → faceLines (g ++ h) ≡ faceLines g ++ faceLines h

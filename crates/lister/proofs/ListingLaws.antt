@@ -7,7 +7,7 @@ use borrow.Author.Tests.{le-leb, lt-leb}
 use lib.IntN.{ℤ}
 use lib.ListN.{length, take}
 use Rattle.touches.specs.Limits.{mostTouches}
-use Rattle.touches.specs.Touches.{refusal}
+use Rattle.touches.specs.Refusals.{recordLengthWrong, because}
 use Rattle.touches.specs.declared.Refusal.{Refusal}
 use Rattle.records.specs.Record.{plainVersion}
 use Rattle.records.specs.Answers.{readOf, ReadGives}
@@ -17,7 +17,7 @@ use Rattle.records.proofs.RoundTrip.{read-front}
 use Rattle.records.proofs.CopyLaws.{read-has}
 use Rattle.lister.specs.Listing.{mostBytes, refusedLine, hullText, readText, listing}
 
-pub many-text : (r : List ℕ) → mostBytes < length r → listing r ≡ refusedLine (refusal 8 0)
+pub many-text : (r : List ℕ) → mostBytes < length r → listing r ≡ refusedLine (because recordLengthWrong)
 unfolding listing
 many-text r h = rw (lt-leb (length r) mostBytes h)
 

@@ -4,11 +4,11 @@ use mathlib.Core.List.{List, [], _∷_, _++_}
 use Prim.Native.Nat.{ℕ}
 use Rattle.touches.specs.Limits.{inRange}
 use Rattle.touches.specs.Check.{strayFrom}
-use Rattle.records.specs.Record.{touchesOf}
-use Rattle.records.specs.Answers.{checkedRecord}
 use Rattle.volume.specs.Volume.{Vol, normal, inLine}
 use Rattle.rules.specs.Faces.{faceVol, visible}
 use Rattle.rules.specs.Building.{seen, unseen, step, build, hull, volume}
+use Rattle.records.specs.Record.{touchesOf}
+use Rattle.records.specs.Answers.{checkedRecord}
 use Rattle.text.specs.Decimal.{decimal}
 use Rattle.lister.specs.Listing.{faceLines, hullText, listing}
 

@@ -6,17 +6,18 @@ use lib.Dec.{leb}
 use lib.IntN.{ℤ}
 use lib.ListN.{length}
 use Rattle.touches.specs.Limits.{mostTouches, mostFaces}
-use Rattle.touches.specs.Touches.{touch, refusal}
+use Rattle.touches.specs.Touches.{touch}
+use Rattle.touches.specs.Refusals.{recordLengthWrong, because}
 use Rattle.touches.specs.Check.{pick, checked, ifAccepted}
 use Rattle.touches.specs.declared.Refusal.{Refusal}
-use Rattle.records.specs.Record.{plainVersion, touchesIn}
-use Rattle.records.specs.Answers.{readOf}
-use Rattle.records.specs.declared.ReadAnswer.{ReadAnswer}
-use Rattle.records.specs.declared.ReadAnswer.the-variants.{Touches, Refused as ReadRefused}
 use Rattle.rules.specs.Faces.{Face, corner}
 use Rattle.hull.specs.Build.{hullOf, builtFrom}
 use Rattle.hull.specs.declared.build.Built.{Built}
 use Rattle.hull.specs.declared.build.Built.the-variants.{Hull, Refused as BuildRefused}
+use Rattle.records.specs.Record.{plainVersion, touchesIn}
+use Rattle.records.specs.Answers.{readOf}
+use Rattle.records.specs.declared.ReadAnswer.{ReadAnswer}
+use Rattle.records.specs.declared.ReadAnswer.the-variants.{Touches, Refused as ReadRefused}
 use Rattle.text.specs.Decimal.{decimal, whole, line}
 
 -- more bytes than these are refused 8
@@ -71,4 +72,4 @@ unfoldable pub listing : List ℕ → List ℕ
 listing r =
     pick (leb (length r) mostBytes)
     (readText r (readOf plainVersion r (mostTouches * 3)))
-    (refusedLine (refusal 8 0))
+    (refusedLine (because recordLengthWrong))

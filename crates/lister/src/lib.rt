@@ -1,7 +1,7 @@
 // The listing of a record: the hull or the refusal, as text.
 use hull::build::Built;
-use hull::table::STRIDE;
 use records::ReadAnswer;
+use touches::FaceNo;
 use touches::Refusal;
 use touches::TouchList;
 ghost use mathlib.Core.Path.{_≡_};
@@ -9,7 +9,7 @@ ghost use mathlib.Core.List.{[], _∷_, _++_};
 ghost use Prim.Native.Nat.{_+_, _*_, _<_, _≤_};
 ghost use lib.ListN.{length, take};
 ghost use Rattle.laws.specs.Lists.{Laid};
-ghost use Rattle.hull.specs.Table.{room, faceAt, facesIn};
+ghost use Rattle.table.specs.Table.{room, facesIn};
 ghost use Rattle.text.specs.Decimal.{decimal, whole, newline};
 ghost use Rattle.text.specs.Room.{Put, Front};
 ghost use Rattle.lister.specs.Listing.{hullLine, refusedLine, faceLine, faceLines, hullText, listing};
@@ -79,24 +79,15 @@ fn put_face(out: &mut [u8], at: usize, f: [u16; 3]) -> usize
     put_field(out, b, f[2], b'\n')
 }
 
-// The corners of face number i.
-fn face(faces: &[u16], i: usize) -> [u16; 3]
-    requires { ⌜ i < room (now faces) ⌝ }
-    ensures { λ r. ⌜ r ≡ faceAt (now (faces .entry)) i ⌝ }
-{
-    let at = i * STRIDE;
-    [faces[at], faces[at + 1], faces[at + 2]]
-}
-
 // A line for each of the first n faces.
-fn put_faces(out: &mut [u8], start: usize, faces: &[u16], n: usize) -> usize
+fn put_faces(out: &mut [u8], start: usize, faces: &[u16], n: u16) -> usize
     requires { ⌜ (n ≤ room (now faces)) × (start + n * faceRoom ≤ length (now out)) ⌝ }
     ensures { λ r. ⌜ Laid start (faceLines (take n (facesIn (now (faces .entry))))) (now (out .entry)) r (now (out .exit)) ⌝ }
 {
     let mut at = start;
-    let mut i: usize = 0;
+    let mut i: u16 = 0;
     while i < n {
-        at = put_face(out, at, face(faces, i));
+        at = put_face(out, at, table::face(faces, FaceNo(i)));
         i += 1;
     }
     at
@@ -107,12 +98,12 @@ fn put_built(out: &mut [u8], coords: &[i32]) -> usize
     requires { ⌜ length (now out) ≡ listingRoom ⌝ }
     ensures { λ r. ⌜ Laid 0 (hullText (now (coords .entry))) (now (out .entry)) r (now (out .exit)) ⌝ }
 {
-    let mut faces = [0u16; TouchList::MOST_FACES * STRIDE];
+    let mut faces = [0u16; table::MOST];
     match hull::build::build(coords, &mut faces) {
         Built::Refused(x) => put_refused(out, x),
         Built::Hull(n, v) => {
             let at = put_hull(out, n, v);
-            put_faces(out, at, &faces, n as usize)
+            put_faces(out, at, &faces, n)
         }
     }
 }
@@ -122,7 +113,7 @@ fn put_listing(out: &mut [u8], bytes: &[u8]) -> usize
     ensures { λ r. ⌜ Laid 0 (listing (now (bytes .entry))) (now (out .entry)) r (now (out .exit)) ⌝ }
 {
     if MOST_BYTES < bytes.len() {
-        return put_refused(out, Refusal::because(8));
+        return put_refused(out, Refusal::because(Refusal::RECORD_LENGTH_WRONG));
     }
     let mut coords = [0i32; TouchList::MOST * 3];
     match records::read(bytes, &mut coords) {

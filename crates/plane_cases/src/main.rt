@@ -1,7 +1,7 @@
 // Works out planes, plane readings and plumb lines of small blocks, one line a case; `stdout` beside src/ is what they must be.
-use hull::planes::Planed;
-use hull::planes::Reading;
-use hull::plumb::Plumbed;
+use planes::Planed;
+use planes::Reading;
+use plumb::Plumbed;
 use touches::Point;
 use touches::Refusal;
 use touches::TouchList;
@@ -101,7 +101,7 @@ fn refused(r: Refusal) {
 }
 
 fn plane(coords: &[i32], a: u16, b: u16, c: u16) {
-    match hull::planes::plane_of(coords, TouchNo(a), TouchNo(b), TouchNo(c)) {
+    match planes::plane_of(coords, TouchNo(a), TouchNo(b), TouchNo(c)) {
         Planed::Refused(r) => refused(r),
         Planed::Of(p) => {
             say(b"plane");
@@ -115,7 +115,7 @@ fn plane(coords: &[i32], a: u16, b: u16, c: u16) {
 }
 
 fn reading(coords: &[i32], a: u16, b: u16, c: u16, x: i64, y: i64, z: i64) {
-    match hull::planes::plane_reading(
+    match planes::plane_reading(
         coords,
         TouchNo(a),
         TouchNo(b),
@@ -137,7 +137,7 @@ fn height(z: f64) {
 }
 
 fn line(coords: &[i32], x: i64, y: i64) {
-    match hull::plumb::plumb(coords, x, y) {
+    match plumb::plumb(coords, x, y) {
         Plumbed::Refused(r) => refused(r),
         Plumbed::Misses => say(b"misses\n"),
         Plumbed::Touches(z) => {

@@ -8,7 +8,7 @@ use borrow.Author.Tests.{le-leb, lt-leb, leb-true, eq-eqb, ne-eqb, eqb-true}
 use lib.Dec.{leb, eqb}
 use lib.ListN.{length, drop, length-drop}
 use Rattle.touches.specs.Limits.{mostTouches}
-use Rattle.touches.specs.Touches.{refusal}
+use Rattle.touches.specs.Refusals.{tooManyTouches, recordLengthWrong, recordVersionUnknown, recordTouchCutShort, because}
 use Rattle.touches.specs.Check.{checked}
 use Rattle.touches.specs.declared.TouchList.{TouchList}
 use Rattle.touches.specs.declared.Checked.the-variants.{Accepted, Refused}
@@ -18,23 +18,23 @@ use Rattle.records.proofs.BodyLaws.{length-touches, touches-whole}
 use Rattle.records.proofs.SoundLaws.{never}
 
 module _ (version : ℕ) (r : List ℕ) where
-  pub is-short : length r < 3 → checkedRecord version r ≡ Refused (refusal 8 0)
+  pub is-short : length r < 3 → checkedRecord version r ≡ Refused (because recordLengthWrong)
   unfolding checkedRecord
   is-short h = rw (lt-leb 3 (length r) h)
 
   -- ---- past the tests of 8, 9 and 10
   module _ (long : 3 ≤ length r) where
-    pub is-miscounted : (countIn r ≡ length r - 2 → ⊥) → checkedRecord version r ≡ Refused (refusal 8 0)
+    pub is-miscounted : (countIn r ≡ length r - 2 → ⊥) → checkedRecord version r ≡ Refused (because recordLengthWrong)
     unfolding checkedRecord
     is-miscounted h = rw (le-leb 3 (length r) long, ne-eqb (countIn r) (length r - 2) h)
 
     module _ (count : countIn r ≡ length r - 2) where
-      pub is-other : (versionIn r ≡ version → ⊥) → checkedRecord version r ≡ Refused (refusal 9 0)
+      pub is-other : (versionIn r ≡ version → ⊥) → checkedRecord version r ≡ Refused (because recordVersionUnknown)
       unfolding checkedRecord
       is-other h = rw (le-leb 3 (length r) long, eq-eqb (countIn r) (length r - 2) count, ne-eqb (versionIn r) version h)
 
       module _ (same : versionIn r ≡ version) where
-        pub is-uneven : ((countIn r - 1) % 6 ≡ 0 → ⊥) → checkedRecord version r ≡ Refused (refusal 10 0)
+        pub is-uneven : ((countIn r - 1) % 6 ≡ 0 → ⊥) → checkedRecord version r ≡ Refused (because recordTouchCutShort)
         unfolding checkedRecord
         is-uneven h = rw (le-leb 3 (length r) long, eq-eqb (countIn r) (length r - 2) count, eq-eqb (versionIn r) version same, ne-eqb ((countIn r - 1) % 6) 0 h)
 
@@ -46,7 +46,7 @@ module _ (version : ℕ) (r : List ℕ) where
           length-touches-in : length (touchesIn r) ≡ (countIn r - 1) / 6 * 3
           length-touches-in = omega (arith, length-touches (drop 3 r), length-drop 3 r)
 
-          pub is-many : mostTouches < (countIn r - 1) / 6 → checkedRecord version r ≡ Refused (refusal 2 0)
+          pub is-many : mostTouches < (countIn r - 1) / 6 → checkedRecord version r ≡ Refused (because tooManyTouches)
           is-many h =
               let n = length-touches-in in
               let t : length (touchesIn r) % 3 ≡ 0 = touches-whole (drop 3 r) in

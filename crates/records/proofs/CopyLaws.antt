@@ -9,7 +9,7 @@ use lib.Dec.{leb}
 use lib.IntN.{ℤ}
 use lib.ListN.{length, take}
 use Rattle.touches.specs.Limits.{mostTouches}
-use Rattle.touches.specs.Touches.{refusal}
+use Rattle.touches.specs.Refusals.{touchRoomTooSmall, because}
 use Rattle.touches.specs.Check.{pick}
 use Rattle.touches.specs.declared.Refusal.{Refusal}
 use Rattle.touches.specs.declared.Checked.{Checked}
@@ -38,7 +38,7 @@ has-read version r room n e = go (checkedRecord version r) refl e
     go : (k : Checked) → checkedRecord version r ≡ k → Touches n ≡ intoList room k → HasRead version r room n
     go (Accepted l) f e = by (leb (l .count * 3) room) refl e
       where
-        by : (b : Bool) → leb (l .count * 3) room ≡ b → Touches n ≡ pick b (Touches (l .count)) (ReadRefused (refusal 11 0)) → HasRead version r room n
+        by : (b : Bool) → leb (l .count * 3) room ≡ b → Touches n ≡ pick b (Touches (l .count)) (ReadRefused (because touchRoomTooSmall)) → HasRead version r room n
         by true t e =
             let q : n ≡ l .count = cc in
             record { accepted = f ∙ ap (λ (k : ℕ). Accepted (record { count = k })) (sym q); enough = rw q (leb-true (l .count * 3) room t) }

@@ -9,7 +9,7 @@ use lib.ListN.{length, take}
 use Rattle.laws.specs.Lists.{lay}
 use Rattle.laws.proofs.Tables.{lay-first}
 use Rattle.touches.specs.Limits.{mostTouches}
-use Rattle.touches.specs.Touches.{refusal}
+use Rattle.touches.specs.Refusals.{touchRoomTooSmall, because}
 use Rattle.touches.specs.Check.{checked}
 use Rattle.touches.specs.declared.Refusal.{Refusal}
 use Rattle.touches.specs.declared.TouchList.{TouchList}
@@ -57,7 +57,7 @@ module _ {version : ℕ} {bytes : List ℕ} where
     pub gives-touches : {old new : List ℤ} → l .count * 3 ≤ length old → new ≡ lay 0 (take (l .count * 3) after) old → ReadGives version bytes old (Touches (l .count)) new
     gives-touches {old} h f = record { answer = rw (opened-is, le-leb (l .count * 3) (length old) h); table = f ∙ ap (λ (ts : List ℤ). lay 0 ts old) opened-front }
 
-    pub gives-11 : {old : List ℤ} → length old < l .count * 3 → ReadGives version bytes old (ReadRefused (refusal 11 0)) old
+    pub gives-11 : {old : List ℤ} → length old < l .count * 3 → ReadGives version bytes old (ReadRefused (because touchRoomTooSmall)) old
     gives-11 {old} h = record { answer = rw (opened-is, lt-leb (l .count * 3) (length old) h); table = refl }
 
   pub gives-refused : {r : Checked} {x : Refusal} {old after : List ℤ} → Opened version bytes r after → r ≡ Refused x → ReadGives version bytes old (ReadRefused x) old

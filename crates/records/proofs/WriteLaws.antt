@@ -8,7 +8,8 @@ use lib.IntN.{ℤ}
 use lib.ListN.{length, set}
 use Rattle.laws.specs.Lists.{Laid}
 use Rattle.laws.proofs.Tables.{laid-then, laid-one}
-use Rattle.touches.specs.Touches.{Sound, refusal}
+use Rattle.touches.specs.Touches.{Sound}
+use Rattle.touches.specs.Refusals.{recordRoomTooSmall, because}
 use Rattle.touches.specs.Check.{checked}
 use Rattle.touches.specs.declared.Refusal.{Refusal}
 use Rattle.touches.specs.declared.TouchList.{TouchList}
@@ -37,7 +38,7 @@ module _ (version : ℕ) (cs : List ℤ) {l : TouchList} (e : checked cs ≡ Acc
       let k : n ≡ 3 + 6 * l .count = omega (arith, p .next, size-is) in
       record { answer = rw (e, le-leb (3 + 6 * l .count) (length old) h, k); table = p .table }
 
-  pub gives-12 : {old : List ℕ} → length old < 3 + 6 * l .count → WriteGives version cs old (WriteRefused (refusal 12 0)) old
+  pub gives-12 : {old : List ℕ} → length old < 3 + 6 * l .count → WriteGives version cs old (WriteRefused (because recordRoomTooSmall)) old
   gives-12 {old} h = record { answer = rw (e, lt-leb (3 + 6 * l .count) (length old) h); table = refl }
 
 pub gives-refused : (version : ℕ) (cs : List ℤ) {x : Refusal} {old : List ℕ} → checked cs ≡ Refused x → WriteGives version cs old (WriteRefused x) old

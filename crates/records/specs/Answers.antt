@@ -7,7 +7,8 @@ use lib.Dec.{leb, eqb}
 use lib.IntN.{ℤ}
 use lib.ListN.{length}
 use Rattle.laws.specs.Lists.{lay}
-use Rattle.touches.specs.Touches.{refusal, touchNo}
+use Rattle.touches.specs.Touches.{touchNo}
+use Rattle.touches.specs.Refusals.{recordLengthWrong, recordVersionUnknown, recordTouchCutShort, touchRoomTooSmall, recordRoomTooSmall, because}
 use Rattle.touches.specs.Check.{pick, checked}
 use Rattle.touches.specs.declared.Checked.{Checked}
 use Rattle.touches.specs.declared.Checked.the-variants.{Accepted, Refused as CheckRefused}
@@ -21,7 +22,7 @@ use Rattle.records.specs.declared.Numbers.{Numbers}
 -- ---- refusals 8, 9, 10, 2 and 3 of a record, for the one version that is taken
 abbrev pub unless : Bool → ℕ → Checked → Checked
 unless true n c = c
-unless false n c = CheckRefused (refusal n 0)
+unless false n c = CheckRefused (because n)
 
 -- at least three bytes, and n is the count of bytes that follow
 abbrev pub sized : List ℕ → Bool
@@ -30,14 +31,14 @@ sized r = leb 3 (length r) && eqb (countIn r) (length r - 2)
 -- a record's touches come in threes of coordinates, so of 1, 2 and 3 only 2 and 3 apply
 unfoldable pub checkedRecord : ℕ → List ℕ → Checked
 checkedRecord version r =
-    unless (sized r) 8
-    (unless (eqb (versionIn r) version) 9
-    (unless (eqb ((countIn r - 1) % 6) 0) 10
+    unless (sized r) recordLengthWrong
+    (unless (eqb (versionIn r) version) recordVersionUnknown
+    (unless (eqb ((countIn r - 1) % 6) 0) recordTouchCutShort
     (checked (touchesIn r))))
 
 -- ---- read 8, 9, 10, 2, 3, 11
 abbrev pub intoList : ℕ → Checked → ReadAnswer
-intoList room (Accepted l) = pick (leb (l .count * 3) room) (Touches (l .count)) (ReadRefused (refusal 11 0))
+intoList room (Accepted l) = pick (leb (l .count * 3) room) (Touches (l .count)) (ReadRefused (because touchRoomTooSmall))
 intoList room (CheckRefused x) = ReadRefused x
 
 abbrev pub readOf : ℕ → List ℕ → ℕ → ReadAnswer
@@ -45,7 +46,7 @@ readOf version r room = intoList room (checkedRecord version r)
 
 -- ---- write 1, 2, 3, 12; copy 8, 9, 10, 2, 3, 12
 abbrev pub intoBuffer : ℕ → Checked → WriteAnswer
-intoBuffer room (Accepted l) = pick (leb (3 + 6 * l .count) room) (Bytes (3 + 6 * l .count)) (WriteRefused (refusal 12 0))
+intoBuffer room (Accepted l) = pick (leb (3 + 6 * l .count) room) (Bytes (3 + 6 * l .count)) (WriteRefused (because recordRoomTooSmall))
 intoBuffer room (CheckRefused x) = WriteRefused x
 
 abbrev pub writeOf : List ℤ → ℕ → WriteAnswer

@@ -3,13 +3,12 @@ use crate::ReadAnswer;
 use touches::Checked;
 use touches::Refusal;
 use touches::TouchList;
-use touches::TouchNo;
 ghost use mathlib.Core.Path.{_≡_};
 ghost use Prim.Native.Nat.{_*_, _/_, _≤_};
 ghost use lib.ListN.{length};
 ghost use Rattle.laws.specs.Lists.{lay};
 ghost use Rattle.touches.specs.Limits.{mostTouches};
-ghost use Rattle.touches.specs.Touches.{refusal};
+ghost use Rattle.touches.specs.Refusals.{because};
 ghost use Rattle.touches.specs.declared.Checked.the-variants.{Refused as CheckRefused};
 ghost use Rattle.records.specs.Record.{ofTwo, signed16, touchesOf};
 ghost use Rattle.records.specs.Answers.{ReadGives};
@@ -47,12 +46,9 @@ fn unpack(room: &mut [i32], body: &[u8])
 }
 
 fn refused(number: u8) -> Checked
-    ensures { λ r. ⌜ r ≡ CheckRefused (refusal number 0) ⌝ }
+    ensures { λ r. ⌜ r ≡ CheckRefused (because number) ⌝ }
 {
-    Checked::Refused(Refusal {
-        number,
-        place: TouchNo(0),
-    })
+    Checked::Refused(Refusal::because(number))
 }
 
 // Refusals 8, 9, 10, 2 and 3 of a record; an accepted one's touches stand at the front of room.
@@ -61,20 +57,20 @@ fn check_record(room: &mut [i32], bytes: &[u8], version: u8) -> Checked
     ensures { λ r. ⌜ Opened version (now (bytes .entry)) r (now (room .exit)) ⌝ }
 {
     if bytes.len() < 3 {
-        return refused(8);
+        return refused(Refusal::RECORD_LENGTH_WRONG);
     }
     let n = of_two(bytes[0], bytes[1]);
     if n != bytes.len() - 2 {
-        return refused(8);
+        return refused(Refusal::RECORD_LENGTH_WRONG);
     }
     if bytes[2] != version {
-        return refused(9);
+        return refused(Refusal::RECORD_VERSION_UNKNOWN);
     }
     if (n - 1) % 6 != 0 {
-        return refused(10);
+        return refused(Refusal::RECORD_TOUCH_CUT_SHORT);
     }
     if TouchList::MOST < (n - 1) / 6 {
-        return refused(2);
+        return refused(Refusal::TOO_MANY_TOUCHES);
     }
     unpack(room, &bytes[3..]);
     let m = (n - 1) / 2;
@@ -102,10 +98,7 @@ pub(crate) fn read_as(coords: &mut [i32], bytes: &[u8], version: u8) -> ReadAnsw
             let n = list.count;
             let m = n * 3;
             if coords.len() < m {
-                return ReadAnswer::Refused(Refusal {
-                    number: 11,
-                    place: TouchNo(0),
-                });
+                return ReadAnswer::Refused(Refusal::because(Refusal::TOUCH_ROOM_TOO_SMALL));
             }
             lay_over(coords, &room[..m]);
             ReadAnswer::Touches(n)

@@ -2,7 +2,6 @@
 use crate::WriteAnswer;
 use touches::Checked;
 use touches::Refusal;
-use touches::TouchNo;
 ghost use mathlib.Core.Path.{_≡_};
 ghost use Prim.Native.Nat.{_+_, _*_, _≤_};
 ghost use lib.ListN.{length};
@@ -63,10 +62,7 @@ pub(crate) fn write_as(buffer: &mut [u8], coords: &[i32], version: u8) -> WriteA
         Checked::Refused(x) => WriteAnswer::Refused(x),
         Checked::Accepted(list) => {
             if buffer.len() < 3 + 6 * list.count {
-                return WriteAnswer::Refused(Refusal {
-                    number: 12,
-                    place: TouchNo(0),
-                });
+                return WriteAnswer::Refused(Refusal::because(Refusal::RECORD_ROOM_TOO_SMALL));
             }
             let n = put_record(buffer, coords, version);
             WriteAnswer::Bytes(n)

@@ -65,6 +65,8 @@ pub record Blocks : Type 0 where
   pub lies-inside : lies (places block) four (at (pos 1) (pos 1) (pos 1)) ≡ inside
   pub lies-on : lies (places block) four (at (pos 2) (pos 3) (pos 5)) ≡ on 3
   pub lies-outside : lies (places block) four (at (pos 10) (pos 10) (pos 10)) ≡ outside 3
+  -- beside the paper's: on the planes of two faces and in front of a third
+  pub lies-beyond : lies (places block) four (at (pos 20) o o) ≡ outside 3
 
 pub blocks : Blocks
 unfolding hull build step seen unseen volume visible faceVol Vol inLine normal lies firstFront firstHolding
@@ -81,4 +83,5 @@ blocks = record {
   lies-inside = refl;
   lies-on = refl;
   lies-outside = refl;
+  lies-beyond = refl;
 }

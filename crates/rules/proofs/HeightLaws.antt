@@ -13,14 +13,14 @@ use Rattle.laws.proofs.Fractions.{across-trans}
 use Rattle.laws.proofs.WithinLaws.{within-neg}
 use Rattle.touches.specs.Limits.{reach}
 use Rattle.touches.specs.Touches.{Near}
-use Rattle.volume.specs.Volume.{mostVolume}
+use Rattle.volume.specs.Volume.{mostNormal, mostVolume}
 use Rattle.volume.proofs.Axes.{Z}
 use Rattle.volume.proofs.VolumeLaws.{vol-within}
 use Rattle.volume.proofs.PlaneLaws.{plane-vol, normal-within}
 use Rattle.rules.specs.Faces.{Face, Places, corner, faceVol}
 use Rattle.rules.specs.Demands.{OnOrInside}
 use Rattle.rules.specs.Plumb.{faceNormal, faceOffset, facing, rest, Fraction, height}
-use Rattle.rules.specs.Heights.{over, whole, Proper, AtMost, volAt, OnOrInsideAt, mostNormal, Fits}
+use Rattle.rules.specs.Heights.{over, whole, Proper, AtMost, volAt, OnOrInsideAt, Fits}
 
 pub at-most-trans : (s t u : Fraction) → Proper s → Proper t → Proper u → AtMost s t → AtMost t u → AtMost s u
 at-most-trans s t u = across-trans (s .top) (s .bottom) (t .top) (t .bottom) (u .top) (u .bottom)

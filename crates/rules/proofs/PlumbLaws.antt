@@ -14,14 +14,14 @@ use Rattle.laws.proofs.Exact.{Exact, e-int}
 use Rattle.touches.specs.Limits.{reach}
 use Rattle.touches.specs.Touches.{touch, touchCount, Near, Sound}
 use Rattle.touches.proofs.SoundLaws.{touch-near}
-use Rattle.volume.specs.Volume.{mostVolume}
+use Rattle.volume.specs.Volume.{mostNormal, mostVolume}
 use Rattle.volume.proofs.Axes.{Axis, Z, on}
 use Rattle.rules.specs.Faces.{Face, Places, corner}
 use Rattle.rules.specs.Building.{hull}
 use Rattle.rules.specs.Placing.{Lies, outside, on as onFace, inside, lies}
 use Rattle.rules.specs.Demands.{OnOrInside}
 use Rattle.rules.specs.Plumb.{faceNormal, facing, rest, Fraction, unbounded, bounds, Plumb, misses, touches, through, plumb}
-use Rattle.rules.specs.Heights.{over, whole, Proper, AtMost, Below, Equal, OnOrInsideAt, Says, Way, up, down, Looks, bound, meets, NoneRefuses, Spans, mostNormal, Fits}
+use Rattle.rules.specs.Heights.{over, whole, Proper, AtMost, Below, Equal, OnOrInsideAt, Says, Way, up, down, Looks, bound, meets, NoneRefuses, Spans, Fits}
 use Rattle.rules.proofs.PlaceLaws.{lies-within}
 use Rattle.rules.proofs.FacingLaws.{normals-zero, looks-up, looks-down}
 use Rattle.rules.proofs.HeightLaws.{whole-height, height-fits, facing-within, rest-within}

@@ -5,10 +5,11 @@ use mathlib.Core.Bool.{false}
 use mathlib.Core.List.{List}
 use Prim.Native.Nat.{ℕ, _+_, _*_, _-_, _≤_, _<_}
 use lib.ListN.{length}
-use lib.IntN.{pos}
+use lib.IntN.{ℤ, pos}
 use lib.Signed.{_≤ℤ_, _<ℤ_}
 use Rattle.laws.specs.Lists.{In, Nodup}
 use Rattle.touches.specs.declared.Point.{Point}
+use Rattle.touches.specs.Touches.{touchCount}
 use Rattle.volume.specs.Volume.{Vol, inLine}
 use Rattle.rules.specs.Faces.{Face, Places, corner, Side, reversed, faceVol, sides}
 use Rattle.rules.specs.Start.{start}
@@ -29,6 +30,10 @@ pub record CornersIn (M : ℕ → Type 0) (f : Face) : Type 0 where
   pub a : M (corner f 0)
   pub b : M (corner f 1)
   pub c : M (corner f 2)
+
+-- f is a face over the touches of a coordinate list
+abbrev pub FaceOf : List ℤ → Face → Type 0
+FaceOf cs f = CornersIn (λ k. k < touchCount cs) f
 
 -- q is behind every face
 abbrev pub Inside : Places → List Face → Point → Type 0

@@ -3,15 +3,13 @@ use mathlib.Core.Path.{_≡_}
 use mathlib.Core.Logic.{_↔_}
 use mathlib.Core.List.{List}
 use mathlib.Core.Option.{Option, some}
-use Prim.Native.Nat.{ℕ, _*_}
 use lib.Dec.{T}
 use lib.IntN.{ℤ, pos, _+ℤ_, _-ℤ_, _*ℤ_}
 use lib.Signed.{_≤ℤ_, _<ℤ_}
 use Rattle.laws.specs.Numbers.{Within}
 use Rattle.laws.specs.Lists.{In}
 use Rattle.touches.specs.declared.Point.{Point}
-use Rattle.touches.specs.Limits.{reach}
-use Rattle.volume.specs.Volume.{mostVolume}
+use Rattle.volume.specs.Volume.{mostNormal, mostVolume}
 use Rattle.rules.specs.Faces.{Face, Places, faceVol}
 use Rattle.rules.specs.Plumb.{facing, rest, Fraction, height, Bounds, unbounded, bounds, Plumb, misses, touches, through}
 
@@ -90,10 +88,6 @@ pub record Spans (p : Places) (h : List Face) (x y : ℤ) (l u : Fraction) : Typ
   pub upper : Tightest p h x y up u
   pub admits : T (bounds p x y unbounded h .admits) ↔ NoneRefuses p h x y
   pub heights : (t : Fraction) → Proper t → OnOrInsideAt p h x y t ↔ (NoneRefuses p h x y × AtMost l t × AtMost t u)
-
--- within range a part of a normal is at most 2 × 60,000² in size
-abbrev pub mostNormal : ℕ
-mostNormal = 2 * (2 * reach) * (2 * reach)
 
 -- both numbers are of the size that V and a part of a normal have within range
 pub record Fits (t : Fraction) : Type 0 where

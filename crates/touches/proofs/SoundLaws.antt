@@ -2,7 +2,7 @@
 use mathlib.Core.Path.{_≡_, refl, _∙_, ap}
 use mathlib.Core.Bool.{Bool, true, false, _&&_}
 use mathlib.Core.List.{List, [], _∷_}
-use Prim.Native.Nat.{ℕ, zero, suc, _+_, _*_, _/_, _%_, _<_, _≤_}
+use Prim.Native.Nat.{ℕ, zero, suc, _+_, _-_, _*_, _/_, _%_, _<_, _≤_}
 use native.Mathlib.Omega.{arith}
 use lib.Dec.{leb, eqb, leb→le, le→leb}
 use lib.IntN.{ℤ, pos, negsuc}
@@ -12,6 +12,7 @@ use Rattle.laws.specs.Numbers.{Within}
 use Rattle.laws.proofs.Tests.{is-true, T-of, and-both, both-and}
 use Rattle.touches.specs.Limits.{mostTouches, reach, inRange, placeInRange}
 use Rattle.touches.specs.Touches.{touchCount, touchNo, refusal, Near, Sound, touch}
+use Rattle.touches.specs.Refusals.{coordinatesNotInThrees, tooManyTouches, because}
 use Rattle.touches.specs.Check.{pick, strayFrom, ofStray, checked}
 use Rattle.touches.specs.declared.Point.{Point}
 use Rattle.touches.specs.declared.TouchList.{TouchList}
@@ -24,12 +25,12 @@ use Rattle.touches.specs.declared.Checked.the-variants.{Accepted, Refuse
 pub range-within : (z : ℤ) → inRange z ≡ true → Within reach z
 unfolding inRange
 range-within (pos n) e = record { within = leb→le n reach (T-of e) }
-range-within (negsuc n) e = record { within = omega (arith, leb→le n 29999 (and-both (leb n 29999) true (T-of e) .0)) }
+range-within (negsuc n) e = let m = reach - 1 in record { within = omega (arith, leb→le n m (and-both (leb n m) true (T-of e) .0)) }
 
 pub within-range : (z : ℤ) → Within reach z → inRange z ≡ true
 unfolding inRange
 within-range (pos n) h = is-true (leb n reach) (le→leb n reach (h .within))
-within-range (negsuc n) h = is-true (leb n 29999 && true) (both-and (leb n 29999) true (le→leb n 29999 (omega (arith, h .within))) tt)
+within-range (negsuc n) h = let m = reach - 1 in is-true (leb n m && true) (both-and (leb n m) true (le→leb n m (omega (arith, h .within))) tt)
 
 -- ---- one place
 pub place-near : (q : Point) → placeInRange q ≡ true → Near q
@@ -77,11 +78,11 @@ accepted-sound cs l e = whole (eqb (length cs % 3) 0) refl e
     stray w f Nowhere g e = record { sound = record { whole = w; few = f; near = no-stray 0 cs g }; count = cc }
     stray w f (At k) g e = let z : _≡_ {A = ℕ} 0 1 = cc in absurd (omega arith)
 
-    few : length cs % 3 ≡ 0 → (b : Bool) → leb (length cs) (mostTouches * 3) ≡ b → pick b (ofStray (touchCount cs) (strayFrom 0 cs)) (Refused (refusal 2 0)) ≡ Accepted l → Passed cs l
+    few : length cs % 3 ≡ 0 → (b : Bool) → leb (length cs) (mostTouches * 3) ≡ b → pick b (ofStray (touchCount cs) (strayFrom 0 cs)) (Refused (because tooManyTouches)) ≡ Accepted l → Passed cs l
     few w true g e = stray w (leb-true (length cs) (mostTouches * 3) g) (strayFrom 0 cs) refl e
     few w false g e = clash e 2 refl
 
-    whole : (b : Bool) → eqb (length cs % 3) 0 ≡ b → pick b (pick (leb (length cs) (mostTouches * 3)) (ofStray (touchCount cs) (strayFrom 0 cs)) (Refused (refusal 2 0))) (Refused (refusal 1 0)) ≡ Accepted l → Passed cs l
+    whole : (b : Bool) → eqb (length cs % 3) 0 ≡ b → pick b (pick (leb (length cs) (mostTouches * 3)) (ofStray (touchCount cs) (strayFrom 0 cs)) (Refused (because tooManyTouches))) (Refused (because coordinatesNotInThrees)) ≡ Accepted l → Passed cs l
     whole true g e = few (eqb-true (length cs % 3) 0 g) (leb (length cs) (mostTouches * 3)) refl e
     whole false g e = clash e 1 refl
 

@@ -6,7 +6,8 @@ use lib.Dec.{leb, eqb}
 use lib.IntN.{ℤ}
 use lib.ListN.{length}
 use Rattle.touches.specs.Limits.{mostTouches, inRange}
-use Rattle.touches.specs.Touches.{touchCount, touchNo, refusal}
+use Rattle.touches.specs.Touches.{touchCount, touchNo}
+use Rattle.touches.specs.Refusals.{coordinatesNotInThrees, tooManyTouches, coordinateOutOfRange, because}
 use Rattle.touches.specs.declared.Refusal.{Refusal}
 use Rattle.touches.specs.declared.Stray.{Stray}
 use Rattle.touches.specs.declared.Stray.the-variants.{Nowhere, At}
@@ -24,13 +25,13 @@ strayFrom i (x ∷ cs) = pick (inRange x) (strayFrom (suc i) cs) (At (touchNo (i
 
 abbrev pub ofStray : ℕ → Stray → Checked
 ofStray n Nowhere = Accepted (record { count = n })
-ofStray n (At k) = Refused (record { number = 3; place = k })
+ofStray n (At k) = Refused (record { number = coordinateOutOfRange; place = k })
 
 abbrev pub checked : List ℤ → Checked
 checked cs =
     pick (eqb (length cs % 3) 0)
-    (pick (leb (length cs) (mostTouches * 3)) (ofStray (touchCount cs) (strayFrom 0 cs)) (Refused (refusal 2 0)))
-    (Refused (refusal 1 0))
+    (pick (leb (length cs) (mostTouches * 3)) (ofStray (touchCount cs) (strayFrom 0 cs)) (Refused (because tooManyTouches)))
+    (Refused (because coordinatesNotInThrees))
 
 -- a refusal of the list is the call's answer; else the call goes on
 abbrev pub ifAccepted : {A : Type 0} → Checked → (Refusal → A) → A → A

@@ -1,3 +1,4 @@
 pub mod Limits
 pub mod Touches
+pub mod Refusals
 pub mod Check

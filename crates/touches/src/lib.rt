@@ -3,7 +3,7 @@ ghost use mathlib.Core.Path.{_≡_};
 ghost use Prim.Native.Nat.{_*_, _≤_};
 ghost use lib.ListN.{length};
 ghost use Rattle.touches.specs.Limits.{mostTouches, limitsOf, inRange, placeInRange};
-ghost use Rattle.touches.specs.Touches.{refusal};
+ghost use Rattle.touches.specs.Refusals.{because, noRefusal};
 ghost use Rattle.touches.specs.Check.{strayFrom, checked};
 
 pub struct TouchNo(pub u16);
@@ -53,17 +53,42 @@ pub struct Refusal {
     pub place: TouchNo,
 }
 
+// The number of each refusal, by the key that texts/meanings.tsv gives it.
 impl Refusal {
+    pub const COORDINATES_NOT_IN_THREES: u8 = 1;
+
+    pub const TOO_MANY_TOUCHES: u8 = 2;
+
+    pub const COORDINATE_OUT_OF_RANGE: u8 = 3;
+
+    pub const ALL_TOUCHES_ON_ONE_PLANE: u8 = 4;
+
+    pub const FACE_TABLE_TOO_SMALL: u8 = 5;
+
+    pub const NO_SUCH_FACE: u8 = 6;
+
+    pub const PLACE_OUT_OF_RANGE: u8 = 7;
+
+    pub const RECORD_LENGTH_WRONG: u8 = 8;
+
+    pub const RECORD_VERSION_UNKNOWN: u8 = 9;
+
+    pub const RECORD_TOUCH_CUT_SHORT: u8 = 10;
+
+    pub const TOUCH_ROOM_TOO_SMALL: u8 = 11;
+
+    pub const RECORD_ROOM_TOO_SMALL: u8 = 12;
+
     // A call that succeeded: number 0, place 0.
     pub fn none() -> Refusal
-        ensures { λ r. ⌜ r ≡ refusal 0 0 ⌝ }
+        ensures { λ r. ⌜ r ≡ noRefusal ⌝ }
     {
         Refusal::because(0)
     }
 
     // A refusal that speaks of no touch.
     pub fn because(number: u8) -> Refusal
-        ensures { λ r. ⌜ r ≡ refusal number 0 ⌝ }
+        ensures { λ r. ⌜ r ≡ because number ⌝ }
     {
         Refusal {
             number,
@@ -115,17 +140,17 @@ pub fn check(coords: &[i32]) -> Checked
     ensures { λ r. ⌜ r ≡ checked (now (coords .entry)) ⌝ }
 {
     if coords.len() % 3 != 0 {
-        return Checked::Refused(Refusal::because(1));
+        return Checked::Refused(Refusal::because(Refusal::COORDINATES_NOT_IN_THREES));
     }
     if TouchList::MOST * 3 < coords.len() {
-        return Checked::Refused(Refusal::because(2));
+        return Checked::Refused(Refusal::because(Refusal::TOO_MANY_TOUCHES));
     }
     match first_stray(coords) {
         Stray::Nowhere => Checked::Accepted(TouchList {
             count: coords.len() / 3,
         }),
         Stray::At(k) => Checked::Refused(Refusal {
-            number: 3,
+            number: Refusal::COORDINATE_OUT_OF_RANGE,
             place: k,
         }),
     }

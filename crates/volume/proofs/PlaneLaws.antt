@@ -9,7 +9,7 @@ use Rattle.laws.proofs.WithinLaws.{within-add, within-sub, within-mul}
 use Rattle.touches.specs.declared.Point.{Point}
 use Rattle.touches.specs.Limits.{reach}
 use Rattle.touches.specs.Touches.{Near}
-use Rattle.volume.specs.Volume.{Vol, dot, normal, offset}
+use Rattle.volume.specs.Volume.{Vol, mostGap, mostNormal, dot, normal, offset}
 use Rattle.volume.proofs.Axes.{Axis, X, Y, Z, on}
 use Rattle.volume.proofs.Quote.{Spot, W, env, pt, minusE, crossE, dotE}
 
@@ -31,17 +31,17 @@ near-on h Y = h .y
 near-on h Z = h .z
 
 module _ {a b c : Point} (ha : Near a) (hb : Near b) (hc : Near c) where
-  gap : (i : Axis) {p : Point} → Near p → Within 60000 (on p i -ℤ on a i)
+  gap : (i : Axis) {p : Point} → Near p → Within mostGap (on p i -ℤ on a i)
   gap i h = within-sub (near-on h i) (near-on ha i)
 
-  part : (i j : Axis) → Within 7200000000 ((on b i -ℤ on a i) *ℤ (on c j -ℤ on a j) -ℤ (on b j -ℤ on a j) *ℤ (on c i -ℤ on a i))
+  part : (i j : Axis) → Within mostNormal ((on b i -ℤ on a i) *ℤ (on c j -ℤ on a j) -ℤ (on b j -ℤ on a j) *ℤ (on c i -ℤ on a i))
   part i j = within-sub (within-mul (gap i hb) (gap j hc)) (within-mul (gap j hb) (gap i hc))
 
-  pub normal-within : (i : Axis) → Within 7200000000 (on (normal a b c) i)
+  pub normal-within : (i : Axis) → Within mostNormal (on (normal a b c) i)
   unfolding normal
   normal-within X = part Y Z
   normal-within Y = part Z X
   normal-within Z = part X Y
 
-  pub dot-within : {q : Point} → Near q → Within 648000000000000 (dot (normal a b c) q)
+  pub dot-within : {q : Point} → Near q → Within (3 * mostNormal * reach) (dot (normal a b c) q)
   dot-within h = within-add (within-add (within-mul (normal-within X) (h .x)) (within-mul (normal-within Y) (h .y))) (within-mul (normal-within Z) (h .z))

@@ -9,7 +9,7 @@ use Rattle.laws.proofs.WithinLaws.{within-add, within-sub, within-mul, within-n
 use Rattle.touches.specs.declared.Point.{Point}
 use Rattle.touches.specs.Limits.{reach}
 use Rattle.touches.specs.Touches.{Near}
-use Rattle.volume.specs.Volume.{Vol, mostVolume, minus, cross, dot}
+use Rattle.volume.specs.Volume.{Vol, mostGap, mostNormal, mostVolume, minus, cross, dot}
 use Rattle.volume.proofs.Axes.{Axis, X, Y, Z, on}
 use Rattle.volume.proofs.Quote.{Spot, W, env, pt, onE, minusE, crossE, dotE}
 
@@ -26,10 +26,10 @@ vol-within {a} {b} {c} {d} ha hb hc hd = subst (Within mostVolume) (sym (vol-cro
     (within-mul (part (gap (hb .z) (ha .z)) (gap (hc .x) (ha .x)) (gap (hb .x) (ha .x)) (gap (hc .z) (ha .z))) (gap (hd .y) (ha .y))))
     (within-mul (part (gap (hb .x) (ha .x)) (gap (hc .y) (ha .y)) (gap (hb .y) (ha .y)) (gap (hc .x) (ha .x))) (gap (hd .z) (ha .z)))))
   where
-    gap : {x y : ℤ} → Within reach x → Within reach y → Within 60000 (x -ℤ y)
+    gap : {x y : ℤ} → Within reach x → Within reach y → Within mostGap (x -ℤ y)
     gap x y = within-sub x y
 
-    part : {p q r s : ℤ} → Within 60000 p → Within 60000 q → Within 60000 r → Within 60000 s → Within 7200000000 (p *ℤ q -ℤ r *ℤ s)
+    part : {p q r s : ℤ} → Within mostGap p → Within mostGap q → Within mostGap r → Within mostGap s → Within mostNormal (p *ℤ q -ℤ r *ℤ s)
     part p q r s = within-sub (within-mul p q) (within-mul r s)
 
 -- ---- ALT: exchanging two points turns the sign, turning three keeps it

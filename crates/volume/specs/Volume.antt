@@ -21,7 +21,13 @@ Vol a b c d =
     +ℤ a .z *ℤ det3 (b .x) (b .y) (pos 1) (c .x) (c .y) (pos 1) (d .x) (d .y) (pos 1)
     -ℤ pos 1 *ℤ det3 (b .x) (b .y) (b .z) (c .x) (c .y) (c .z) (d .x) (d .y) (d .z)
 
--- within range it is at most 48 × 30,000³ in size
+-- within range a difference is at most 60,000 in size, a part of a normal 2 × 60,000², and V 48 × 30,000³
+abbrev pub mostGap : ℕ
+mostGap = 2 * reach
+
+abbrev pub mostNormal : ℕ
+mostNormal = 2 * mostGap * mostGap
+
 abbrev pub mostVolume : ℕ
 mostVolume = 48 * reach * reach * reach
 

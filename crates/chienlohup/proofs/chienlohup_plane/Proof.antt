@@ -1,6 +1,6 @@
 use borrow.Author.Needs.{needs}
 use mathlib.Core.Path.{_∙_, ap}
-use Rattle.hull.specs.Planes.{planedRefusal, planedPlane}
+use Rattle.planes.specs.Planes.{planedRefusal, planedPlane}
 use Rattle.chienlohup.specs.Numbers.{numbers, planeNumbers}
 use Rattle.chienlohup.proofs.chienlohup_plane.Statement.{statement}
 use Rattle.chienlohup.proofs.chienlohup_plane.Tie as tie

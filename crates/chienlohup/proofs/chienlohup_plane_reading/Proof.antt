@@ -1,7 +1,7 @@
 use borrow.Author.Needs.{needs}
 use mathlib.Core.Path.{_∙_, ap}
 use mir.Facts.{toZ-ofZ}
-use Rattle.hull.specs.Planes.{planeReading, readingRefusal, readingValue}
+use Rattle.planes.specs.Planes.{planeReading, readingRefusal, readingValue}
 use Rattle.chienlohup.specs.Numbers.{numbers, one, placeAt}
 use Rattle.chienlohup.proofs.chienlohup_plane_reading.Statement.{statement}
 use Rattle.chienlohup.proofs.chienlohup_plane_reading.Tie as tie

@@ -2,8 +2,8 @@ use borrow.Author.Needs.{needs}
 use mathlib.Core.Path.{_∙_, ap}
 use native.Mathlib.Omega.{arith}
 use lib.ListN.{length}
-use Rattle.records.specs.declared.Numbers.{Numbers}
 use Rattle.touches.specs.Check.{checked}
+use Rattle.records.specs.declared.Numbers.{Numbers}
 use Rattle.records.specs.declared.WriteAnswer.{WriteAnswer}
 use Rattle.records.specs.Record.{plainVersion, recordOf}
 use Rattle.records.specs.Answers.{bufferAfter, writeNumbers}

@@ -37,9 +37,6 @@ put-hull-requires c κs = search needs
 slice-aggregate-put-faces : tie.Need-slice-aggregate-put-faces
 slice-aggregate-put-faces c = search needs
 
-cast-put-faces : tie.Need-cast-put-faces
-cast-put-faces c = search needs
-
 put-faces-requires : tie.Need-put-faces-requires
 put-faces-requires c κs =
     let n = c .before .before .before .before .before .before .before in
@@ -73,7 +70,6 @@ put-built-spec =
     enum-known-n
     put-hull-requires
     slice-aggregate-put-faces
-    cast-put-faces
     put-faces-requires
     same-length
     returns

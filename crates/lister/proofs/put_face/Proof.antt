@@ -1,7 +1,7 @@
+use borrow.Author.Needs.{needs}
 use Rattle.rules.specs.Faces.{corner}
 use Rattle.text.specs.Decimal.{decimal}
 use Rattle.text.proofs.LineLaws.{laid-line}
-use borrow.Author.Needs.{needs}
 use Rattle.lister.proofs.put_face.Statement.{statement}
 use Rattle.lister.proofs.put_face.Tie as tie
 

@@ -5,7 +5,7 @@ use borrow.Author.Needs.{needs}
 use lib.ListN.{length, take}
 use Rattle.laws.specs.Lists.{Laid}
 use Rattle.laws.proofs.Tables.{laid-none}
-use Rattle.hull.specs.Table.{facesIn}
+use Rattle.table.specs.Table.{facesIn}
 use Rattle.lister.specs.Listing.{faceLines}
 use Rattle.lister.proofs.FaceLaws.{lines-none, laid-next}
 use Rattle.lister.proofs.put_faces.Statement.{statement}

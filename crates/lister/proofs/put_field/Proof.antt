@@ -1,10 +1,10 @@
 use Prim.Native.Nat.{_≤_}
 use lib.ListN.{length}
+use native.Mathlib.Omega.{arith}
+use borrow.Author.Needs.{needs}
 use Rattle.text.specs.Decimal.{decimal}
 use Rattle.text.proofs.DecimalLaws.{length-decimal}
-use native.Mathlib.Omega.{arith}
 use Rattle.lister.proofs.FieldLaws.{field-short, field-inside, field-laid}
-use borrow.Author.Needs.{needs}
 use Rattle.lister.proofs.put_field.Statement.{statement}
 use Rattle.lister.proofs.put_field.Tie as tie
 

@@ -1,9 +1,9 @@
 use mir.Syntax.{w64}
 use mir.ValLaws.{toZ-ofZ}
-use Rattle.text.specs.Decimal.{decimal, whole}
-use Rattle.lister.specs.Listing.{hullWord}
-use Rattle.text.proofs.LineLaws.{laid-line}
 use borrow.Author.Needs.{needs}
+use Rattle.text.specs.Decimal.{decimal, whole}
+use Rattle.text.proofs.LineLaws.{laid-line}
+use Rattle.lister.specs.Listing.{hullWord}
 use Rattle.lister.proofs.put_hull.Statement.{statement}
 use Rattle.lister.proofs.put_hull.Tie as tie
 

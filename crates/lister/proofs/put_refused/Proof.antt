@@ -1,7 +1,7 @@
-use Rattle.text.specs.Decimal.{decimal}
-use Rattle.lister.specs.Listing.{refusedWord}
-use Rattle.text.proofs.LineLaws.{laid-line}
 use borrow.Author.Needs.{needs}
+use Rattle.text.specs.Decimal.{decimal}
+use Rattle.text.proofs.LineLaws.{laid-line}
+use Rattle.lister.specs.Listing.{refusedWord}
 use Rattle.lister.proofs.put_refused.Statement.{statement}
 use Rattle.lister.proofs.put_refused.Tie as tie
 

@@ -1,5 +1,5 @@
-use Rattle.text.proofs.RoomLaws.{put-laid}
 use borrow.Author.Needs.{needs}
+use Rattle.text.proofs.RoomLaws.{put-laid}
 use Rattle.lister.proofs.put_word.Statement.{statement}
 use Rattle.lister.proofs.put_word.Tie as tie
 

@@ -7,15 +7,12 @@ use Rattle.touches.proofs.in_range.Tie as tie
 use Rattle.touches.proofs.in_range.Reads as reads
 use Rattle.touches.proofs.in_range.Lts as lts
 
--- src/lib.rt:35:5
 sub-if1 : tie.Need-sub-if1
 sub-if1 c = search needs
 
--- src/lib.rt:32:1
 returns : tie.Need-returns
 returns c = range-second (toZ-ofZ w64 (c .before .args .x) (c .before .fits .x)) (c .if1 .taken)
 
--- src/lib.rt:32:1
 returns-2 : tie.Need-returns-2
 returns-2 c = range-first (toZ-ofZ w64 (c .before .args .x) (c .before .fits .x)) (c .if1 .left)
 

@@ -11,19 +11,15 @@ use Rattle.touches.proofs.place_in_range.Reads as reads
 use Rattle.touches.proofs.place_in_range.Lts as lts
 use Rattle.touches.proofs.in_range.Reads as in-range-reads
 
--- src/lib.rt:75:5
 in-range-requires : tie.Need-in-range-requires
 in-range-requires c κs = search needs
 
--- src/lib.rt:75:21
 in-range-requires-2 : tie.Need-in-range-requires-2
 in-range-requires-2 c κs = search needs
 
--- src/lib.rt:75:37
 in-range-requires-3 : tie.Need-in-range-requires-3
 in-range-requires-3 c κs = search needs
 
--- src/lib.rt:72:1
 returns : tie.Need-returns
 returns c =
     let q = c .before .before .before .before .before .before .args .q in

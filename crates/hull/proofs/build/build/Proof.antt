@@ -5,7 +5,7 @@ use Rattle.touches.specs.declared.Checked.the-variants.{Accepted}
 use Rattle.touches.specs.Touches.{touch}
 use Rattle.touches.specs.Check.{checked, ifAccepted}
 use Rattle.touches.proofs.SoundLaws.{accepted-sound}
-use Rattle.hull.specs.Table.{room}
+use Rattle.table.specs.Table.{room}
 use Rattle.hull.specs.Build.{hullOf, builtFrom}
 use Rattle.hull.specs.declared.build.Built.the-variants.{Refused}
 use Rattle.hull.proofs.build.build.Statement.{statement}
@@ -46,7 +46,7 @@ returns-2 c =
     let a = k .before .before .before .before .before .args in
     let cs = a .coords .now in
     let q = c .before .before .build-checked in
-    (q .ensures .0 ∙ sym (ap (λ (k : Checked). ifAccepted k Refused (builtFrom (touch cs) (room (a .faces .now)) (hullOf cs))) (accepted k)), q .ensures .1)
+    (q .ensures .answer ∙ sym (ap (λ (k : Checked). ifAccepted k Refused (builtFrom (touch cs) (room (a .faces .now)) (hullOf cs))) (accepted k)), q .ensures .table)
 
 pub build-spec : {M : Type 1} → statement M
 build-spec =

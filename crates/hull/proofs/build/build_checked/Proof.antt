@@ -2,7 +2,7 @@ use borrow.Author.Needs.{needs}
 use mathlib.Core.Path.{_≡_, refl, sym, ap, _∙_}
 use Rattle.touches.specs.Touches.{touch}
 use Rattle.rules.specs.Start.{start}
-use Rattle.hull.specs.Table.{room}
+use Rattle.table.specs.Table.{room}
 use Rattle.hull.specs.Start.{startedOf}
 use Rattle.hull.specs.Build.{builtFrom}
 use Rattle.hull.specs.declared.build.Built.the-variants.{Refused}
@@ -33,14 +33,14 @@ build-from-requires : tie.Need-build-from-requires
 build-from-requires c κs =
     let k = c .before in
     let s = c .before .before .before .before .before .before in
-    (begun (s .args .coords .now) (s .pre .1) (s .pre .0) (k .before .s .given .0 .0) (found k), s .pre .1)
+    begun (s .args .coords .now) (s .pre .1) (s .pre .0) (k .before .s .given .0 .0) (found k)
 
 returns : tie.Need-returns
 returns c =
     let s = c .before .before .before .before .before in
     let cs = s .args .coords .now in
     let e = hull-flat cs (s .pre .1) (sym (c .before .enum-told .given .1) ∙ c .before .before .before .find-start .ensures) in
-    (ap Refused (c .because .ensures) ∙ sym (ap (builtFrom (touch cs) (room (s .args .faces .now))) e), refl)
+    record { answer = ap Refused (c .because .ensures) ∙ sym (ap (builtFrom (touch cs) (room (s .args .faces .now))) e); table = refl }
 
 same-length : tie.Need-same-length
 same-length c = search needs

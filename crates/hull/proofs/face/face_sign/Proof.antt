@@ -3,7 +3,7 @@ use mathlib.Core.Path.{_∙_, ap}
 use mir.Syntax.{w32}
 use mir.ValLaws.{toZ-ofZ}
 use Rattle.volume.specs.Volume.{signOf}
-use Rattle.hull.proofs.NumberLaws.{back}
+use Rattle.points.proofs.NumberLaws.{back}
 use Rattle.hull.proofs.face.face_sign.Statement.{statement}
 use Rattle.hull.proofs.face.face_sign.Tie as tie
 

@@ -1,7 +1,7 @@
 use borrow.Author.Needs.{needs}
 use mathlib.Core.Path.{_∙_}
 use Rattle.rules.specs.Faces.{faceVol}
-use Rattle.hull.proofs.NumberLaws.{back, back-small}
+use Rattle.points.proofs.NumberLaws.{back, back-small}
 use Rattle.hull.proofs.face.face_volume.Statement.{statement}
 use Rattle.hull.proofs.face.face_volume.Tie as tie
 

@@ -14,9 +14,10 @@ use Rattle.touches.specs.Touches.{touch}
 use Rattle.volume.specs.Volume.{isZero}
 use Rattle.volume.proofs.SignLaws.{sign-below, sign-zero}
 use Rattle.rules.specs.Faces.{Face, faceVol}
-use Rattle.hull.specs.Inner.{FaceOf}
-use Rattle.hull.specs.Table.{room, faceAt}
-use Rattle.hull.proofs.PlaceLaws.{Looked, looked-none, looked-more, front, holding, settled-is, usable-few, usable-face}
+use Rattle.rules.specs.Demands.{FaceOf}
+use Rattle.table.specs.Table.{room, faceAt}
+use Rattle.table.proofs.UsableLaws.{usable-few, usable-face}
+use Rattle.hull.proofs.PlaceLaws.{Looked, looked-none, looked-more, front, holding, settled-is}
 use Rattle.hull.proofs.place.look.Statement.{statement}
 use Rattle.hull.proofs.place.look.Tie as tie
 

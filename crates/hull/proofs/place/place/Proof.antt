@@ -7,7 +7,7 @@ use Rattle.touches.specs.declared.Checked.the-variants.{Accepted}
 use Rattle.touches.specs.Touches.{touchCount}
 use Rattle.touches.specs.Check.{checked}
 use Rattle.touches.proofs.SoundLaws.{Passed, accepted-sound, place-near}
-use Rattle.hull.specs.Table.{usable}
+use Rattle.table.specs.Table.{usable}
 use Rattle.hull.proofs.PlaceLaws.{place-refused, place-unusable, place-far, place-looked}
 use Rattle.hull.proofs.place.place.Statement.{statement}
 use Rattle.hull.proofs.place.place.Tie as tie

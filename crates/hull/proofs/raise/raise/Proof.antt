@@ -1,15 +1,33 @@
+-- The loop's invariant: the touches below k are taken, and k is not of the start.
 use borrow.Author.Needs.{needs}
-use mathlib.Core.Path.{refl}
+use mathlib.Core.Path.{_≡_, refl, _∙_}
+use mathlib.Core.Bool.{false}
+use Prim.Native.Nat.{_≤_, _-_}
 use native.Mathlib.Omega.{arith}
+use lib.ListN.{length}
+use Rattle.rules.specs.Start.{isStart}
+use Rattle.rules.proofs.Theorems.{accepted-few}
+use Rattle.border.specs.Marks.{Fresh}
+use Rattle.border.proofs.MarkLaws.{fresh-later}
+use Rattle.hull.specs.Start.{startOf}
+use Rattle.hull.specs.Inner.{Held}
 use Rattle.hull.proofs.WholeLaws.{planed-none}
-use Rattle.hull.proofs.RaiseLaws.{known-start, tables-kept, start-faces, held-start}
+use Rattle.hull.proofs.RaiseLaws.{known-start, tables-kept, start-faces, held-start, held-next, begun-first, begun-next, begun-within, goes-on, held-end, held-step, taken-ready}
 use Rattle.hull.proofs.raise.raise.Statement.{statement}
 use Rattle.hull.proofs.raise.raise.Tie as tie
 
-put-start-requires : tie.Need-put-start-requires
+abbrev Inv-loop : tie.InvT-loop
+Inv-loop table₀ planes₀ seen₀ marks₀ coords s n m₀ k₀ table planes seen marks m k =
+    (k ≤ n) × (length table ≡ length table₀) × (length planes ≡ length planes₀) × (length seen ≡ length seen₀) × (length marks ≡ length marks₀)
+    × Held coords (startOf s) k m table planes × Fresh k marks × (isStart (startOf s) k ≡ false)
+
+abbrev μ-loop : tie.MeasureT-loop
+μ-loop table₀ planes₀ seen₀ marks₀ coords s n m₀ k₀ table planes seen marks m k = n - k
+
+put-start-requires : tie.Need-put-start-requires Inv-loop μ-loop
 put-start-requires c κs = let s = c .before .before in (s .pre .0 .sound, known-start (s .args .s) (s .pre .0), omega (arith, s .pre .3))
 
-put-planes-requires : tie.Need-put-planes-requires
+put-planes-requires : tie.Need-put-planes-requires Inv-loop μ-loop
 put-planes-requires c κs =
     let s = c .before .before .before .before .before .before in
     let q = c .before .before .before .put-start in (
@@ -21,35 +39,90 @@ put-planes-requires c κs =
       λ j _ l. start-faces (s .pre .0) (q .ensures) j l,
     )
 
-take-others-requires : tie.Need-take-others-requires
-take-others-requires c κs =
-    let h = c .before .before .before .before .before .before .before .before .before .before .before .before .pre in
-    let q = c .before .before .before .before .before .before .before .before .before .put-start in
-    let w = c .before .before .before .before .before .put-planes in
-    (h .0, tables-kept (h .1) (q .kept .0) (w .kept .0) refl refl, held-start (h .0) (q .ensures) (q .kept .0) (h .3) (w .ensures), h .2, h .4)
+next-other-requires : tie.Need-next-other-requires Inv-loop μ-loop
+next-other-requires c κs = search needs
 
-same-length : tie.Need-same-length
-same-length c = search needs
+loop-holds : tie.Need-loop-holds Inv-loop μ-loop
+loop-holds c =
+    let h = c .before .before .before .before .before .before .before .before .before .pre in
+    let q = c .before .before .before .before .before .before .put-start in
+    let w = c .before .before .put-planes in
+    let o = begun-first (h .0) (c .next-other .ensures) in
+    (begun-within (h .0) o (omega arith), refl, refl, refl, refl, held-next (h .0) (held-start (h .0) (q .ensures) (q .kept .0) (h .3) (w .ensures)) o, fresh-later (h .2) (omega arith), o .here)
 
-same-length-2 : tie.Need-same-length-2
-same-length-2 c = search needs
+cast-t30 : tie.Need-cast-t30 Inv-loop μ-loop
+cast-t30 c = omega (arith, c .before .before .before .before .before .loop .inv .0, accepted-few (c .before .before .before .before .before .before .before .before .before .before .before .before .before .before .before .pre .0 .sound))
 
-same-length-3 : tie.Need-same-length-3
-same-length-3 c = search needs
+step-requires : tie.Need-step-requires Inv-loop μ-loop
+step-requires c κs =
+    let h = c .before .before .before .before .before .before .before .before .before .before .before .before .before .before .before .pre in
+    let q = c .before .before .before .before .before .before .before .before .before .before .before .before .put-start in
+    let w = c .before .before .before .before .before .before .before .before .put-planes in
+    let l = c .before .before .before .before .before .loop in
+    let g = goes-on (l .k) _ (l .m) _ (c .before .before .before .before .loop-test .taken) in
+    let t = l .inv .5 .taken (g .1) in
+    (taken-ready (h .0) t (l .inv .0) (g .0), t .planed, tables-kept (h .1) (l .inv .1 ∙ q .kept .0) (l .inv .2 ∙ w .kept .0) (l .inv .3) (l .inv .4), l .inv .6, l .inv .5 .most)
 
-same-length-4 : tie.Need-same-length-4
-same-length-4 c = search needs
+add-next-other : tie.Need-add-next-other Inv-loop μ-loop
+add-next-other c = omega (arith, c .before .before .before .before .before .before .before .before .before .before .before .loop .inv .0, accepted-few (c .before .before .before .before .before .before .before .before .before .before .before .before .before .before .before .before .before .before .before .before .before .pre .0 .sound))
 
-returns : tie.Need-returns
-returns c = search needs
+next-other-requires-2 : tie.Need-next-other-requires-2 Inv-loop μ-loop
+next-other-requires-2 c κs = search needs
+
+loop-less : tie.Need-loop-less Inv-loop μ-loop
+loop-less c =
+    let l = c .before .before .before .before .before .before .before .before .before .before .before .before .loop in
+    omega (arith, begun-next (c .before .before .before .before .before .before .before .before .before .before .before .before .before .before .before .before .before .before .before .before .before .before .pre .0) (l .k) (c .next-other2 .ensures) .from, goes-on (l .k) _ (l .m) _ (c .before .before .before .before .before .before .before .before .before .before .before .loop-test .taken) .0)
+
+loop-again : tie.Need-loop-again Inv-loop μ-loop
+loop-again c =
+    let h = c .before .before .before .before .before .before .before .before .before .before .before .before .before .before .before .before .before .before .before .before .before .before .pre in
+    let l = c .before .before .before .before .before .before .before .before .before .before .before .before .loop in
+    let g = goes-on (l .k) _ (l .m) _ (c .before .before .before .before .before .before .before .before .before .before .before .loop-test .taken) in
+    let t = l .inv .5 .taken (g .1) in
+    let q = c .before .before .before .before .before .before .step in
+    let o = begun-next (h .0) (l .k) (c .next-other2 .ensures) in (
+      begun-within (h .0) o (omega (arith, g .0)),
+      q .kept .0 ∙ l .inv .1,
+      q .kept .1 .0 ∙ l .inv .2,
+      q .kept .1 .1 .0 ∙ l .inv .3,
+      q .kept .1 .1 .1 .0 ∙ l .inv .4,
+      held-next (h .0) (held-step (h .0) t (g .0) (l .inv .7) (q .kept .0) (q .ensures .0) (q .ensures .1 .0)) o,
+      fresh-later (q .ensures .1 .1) (o .from),
+      o .here,
+    )
+
+same-length : tie.Need-same-length Inv-loop μ-loop
+same-length c = c .before .loop .inv .1 ∙ c .before .before .before .before .before .before .before .before .put-start .kept .0
+
+same-length-2 : tie.Need-same-length-2 Inv-loop μ-loop
+same-length-2 c = c .before .loop .inv .2 ∙ c .before .before .before .before .put-planes .kept .0
+
+same-length-3 : tie.Need-same-length-3 Inv-loop μ-loop
+same-length-3 c = c .before .loop .inv .3
+
+same-length-4 : tie.Need-same-length-4 Inv-loop μ-loop
+same-length-4 c = c .before .loop .inv .4
+
+returns : tie.Need-returns Inv-loop μ-loop
+returns c = let l = c .before .loop in held-end (c .before .before .before .before .before .before .before .before .before .before .before .pre .0) (l .inv .5) (l .inv .0) (c .loop-test .left)
 
 pub raise-spec : {M : Type 1} → statement M
 raise-spec =
     tie.close
     (tie.spec
+    Inv-loop
+    μ-loop
     put-start-requires
     put-planes-requires
-    take-others-requires
+    next-other-requires
+    loop-holds
+    cast-t30
+    step-requires
+    add-next-other
+    next-other-requires-2
+    loop-less
+    loop-again
     same-length
     same-length-2
     same-length-3

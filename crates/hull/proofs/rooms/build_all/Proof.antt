@@ -1,18 +1,10 @@
 use borrow.Author.Needs.{needs}
-use mathlib.Core.Path.{refl, sym, ap, subst, _∙_}
-use mathlib.Core.List.{List}
-use mathlib.Core.Option.{Option}
+use mathlib.Core.Path.{refl, sym, subst, _∙_}
 use Prim.Native.Nat.{ℕ, _<_, _≤_}
-use native.Mathlib.Nat.{le-trans}
 use lib.Dec.{lit<, lit≤}
-use lib.ListN.{length, take}
 use Rattle.touches.specs.Limits.{mostFaces}
-use Rattle.touches.specs.Touches.{touch}
-use Rattle.rules.specs.Faces.{Face}
 use Rattle.rules.proofs.Theorems.{accepted-few}
-use Rattle.hull.specs.Table.{room}
-use Rattle.hull.specs.Build.{builtFrom, tableAfter}
-use Rattle.hull.proofs.BuildLaws.{front-hull, front-count, front-ready, front-few, front-planed, fresh-ones}
+use Rattle.hull.proofs.BuildLaws.{front-count, front-asked, front-builds, marks-for, fresh-ones}
 use Rattle.hull.proofs.rooms.build_all.Statement.{statement}
 use Rattle.hull.proofs.rooms.build_all.Tie as tie
 
@@ -31,16 +23,13 @@ slice-aggregate-raise-4 c = search needs
 raise-requires : tie.Need-raise-requires
 raise-requires c κs =
     let h = c .before .before .before .before .before .pre in
-    (h .0, record { planes-long = refl; seen-long = refl; mark-table = record { few = lit≤ tt; room = lit≤ tt }; touches = accepted-few (h .0 .sound) }, fresh-ones _ tt, lit< tt, h .1)
+    (h, record { planes-long = refl; seen-long = refl; mark-table = marks-for (h .sound) (accepted-few (h .sound)) (lit≤ tt) }, fresh-ones _ tt, lit< tt)
 
 array-share-prefix-table : tie.Need-array-share-prefix-table
 array-share-prefix-table c = search needs
 
 slice-aggregate-write-hull : tie.Need-slice-aggregate-write-hull
-slice-aggregate-write-hull c =
-    let q = c .before .before .before .before .before .before .raise in
-    let h = c .before .before .before .before .before .before .before .before .before .before .before .before .pre in
-    front-count (h .0) (h .1) (q .ensures .taken (q .ensures .room (subst (λ (n : ℕ). mostFaces < n) (sym (q .kept .0)) (lit< tt))))
+slice-aggregate-write-hull c = let q = c .before .before .before .before .before .before .raise in front-count (c .before .before .before .before .before .before .before .before .before .before .before .before .pre) (q .ensures .taken (q .ensures .room (subst (λ (n : ℕ). mostFaces < n) (sym (q .kept .0)) (lit< tt))))
 
 slice-aggregate-write-hull-2 : tie.Need-slice-aggregate-write-hull-2
 slice-aggregate-write-hull-2 c = search needs
@@ -48,21 +37,13 @@ slice-aggregate-write-hull-2 c = search needs
 write-hull-requires : tie.Need-write-hull-requires
 write-hull-requires c κs =
     let q = c .before .before .before .before .before .before .before .raise in
-    let h = c .before .before .before .before .before .before .before .before .before .before .before .before .before .pre in
-    let t = q .ensures .taken (q .ensures .room (subst (λ (n : ℕ). mostFaces < n) (sym (q .kept .0)) (lit< tt))) in
-    (front-ready (h .0) (h .1) t, front-planed (h .0) (h .1) t, subst (λ (n : ℕ). length (take (q .result) (q .last .0)) ≤ n) (sym (q .kept .1 .0)) (le-trans (front-few (h .0) (h .1) t) (lit≤ tt)), front-few (h .0) (h .1) t)
+    front-asked (c .before .before .before .before .before .before .before .before .before .before .before .before .before .pre) (q .ensures .taken (q .ensures .room (subst (λ (n : ℕ). mostFaces < n) (sym (q .kept .0)) (lit< tt)))) (subst (λ (n : ℕ). q .result ≤ n) (q .kept .0 ∙ sym (q .kept .1 .0)) (q .ensures .most))
 
 same-length : tie.Need-same-length
 same-length c = search needs
 
 returns : tie.Need-returns
-returns c =
-    let s = c .before .before .before .before .before .before .before .before .before .before .before .before .before .before .before .before in
-    let a = s .args in
-    let q = c .before .before .before .before .before .before .before .before .before .before .raise in
-    let w = c .before .before .write-hull in
-    let e = front-hull (s .pre .0) (s .pre .1) (q .ensures .taken (q .ensures .room (subst (λ (n : ℕ). mostFaces < n) (sym (q .kept .0)) (lit< tt)))) in
-    (w .ensures .0 ∙ sym (ap (builtFrom (touch (a .coords .now)) (room (a .faces .now))) e), w .ensures .1 ∙ sym (ap (λ (h : Option (List Face)). tableAfter (w .result) h (a .faces .now)) e))
+returns c = let q = c .before .before .before .before .before .before .before .before .before .before .raise in front-builds (c .before .before .before .before .before .before .before .before .before .before .before .before .before .before .before .before .pre) (q .ensures .taken (q .ensures .room (subst (λ (n : ℕ). mostFaces < n) (sym (q .kept .0)) (lit< tt)))) (c .before .before .write-hull .ensures)
 
 pub build-all-spec : {M : Type 1} → statement M
 build-all-spec =

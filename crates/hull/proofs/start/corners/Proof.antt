@@ -4,8 +4,8 @@ use mir.Syntax.{w64}
 use mir.Val.{toZ, ofZ}
 use Rattle.touches.specs.Touches.{touch}
 use Rattle.volume.specs.Volume.{Vol}
+use Rattle.points.proofs.NumberLaws.{back}
 use Rattle.hull.specs.Start.{startOf}
-use Rattle.hull.proofs.NumberLaws.{back}
 use Rattle.hull.proofs.StartLaws.{corners-kept, corners-turned}
 use Rattle.hull.proofs.start.corners.Statement.{statement}
 use Rattle.hull.proofs.start.corners.Tie as tie

@@ -7,9 +7,9 @@ use lib.IntN.{ℤ}
 use Rattle.touches.specs.Touches.{touch}
 use Rattle.volume.specs.Volume.{Vol, inLine, isZero}
 use Rattle.rules.specs.Start.{samePlace}
+use Rattle.points.proofs.NumberLaws.{zero-test}
 use Rattle.hull.specs.Start.{suits}
 use Rattle.hull.specs.declared.start.Sought.{Sought}
-use Rattle.hull.proofs.NumberLaws.{zero-test}
 use Rattle.hull.proofs.start.is_suited.Statement.{statement}
 use Rattle.hull.proofs.start.is_suited.Tie as tie
 

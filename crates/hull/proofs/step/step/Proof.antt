@@ -3,47 +3,31 @@ use native.Mathlib.Omega.{arith}
 use Prim.Native.Nat.{_≤_}
 use lib.ListN.{length, length-take}
 use Rattle.rules.proofs.Theorems.{accepted-few}
-use Rattle.hull.proofs.StepLaws.{front-few, kept-few, front-count, front-faces, step-poured, step-faces, planed-before, marks-kept}
+use Rattle.hull.proofs.StepLaws.{front-few, kept-few, front-count, front-faces, step-poured, step-faces, planed-before}
 use Rattle.hull.proofs.step.step.Statement.{statement}
 use Rattle.hull.proofs.step.step.Tie as tie
 
 part-requires : tie.Need-part-requires
 part-requires c κs = search needs
 
-slice-reshare-prefix-mark-all : tie.Need-slice-reshare-prefix-mark-all
-slice-reshare-prefix-mark-all c =
-    let q = c .before .before .before .before .part in
-    let s = c .before .before .before .before .before .before .before .before .before in
-    omega (arith, front-few (q .ensures .0), length-take (s .args .n) (s .args .table .now), s .pre .5, s .pre .7, q .kept .1 .1 .0)
-
-slice-aggregate-mark-all : tie.Need-slice-aggregate-mark-all
-slice-aggregate-mark-all c = front-count (c .before .before .before .before .before .part .ensures .0)
-
-mark-all-requires : tie.Need-mark-all-requires
-mark-all-requires c κs =
-    let q = c .before .before .before .before .before .part in
-    let s = c .before .before .before .before .before .before .before .before .before .before in
-    (s .pre .2, s .pre .3, omega (arith, s .pre .0 .touch, accepted-few (s .pre .0 .sound)), front-faces (q .ensures .0) (s .pre .4) (s .pre .0))
-
 slice-reshare-prefix-add-cone : tie.Need-slice-reshare-prefix-add-cone
 slice-reshare-prefix-add-cone c =
-    let q = c .before .before .before .before .before .before .before .before .before .part in
-    let s = c .before .before .before .before .before .before .before .before .before .before .before .before .before .before in
-    omega (arith, front-few (q .ensures .0), length-take (s .args .n) (s .args .table .now), s .pre .5, s .pre .7, q .kept .1 .1 .0)
+    let q = c .before .before .before .before .part in
+    let s = c .before .before .before .before .before .before .before .before .before in
+    omega (arith, front-few (q .ensures .0), length-take (s .args .n) (s .args .table .now), s .pre .4, s .pre .2 .seen-long, q .kept .1 .1 .0)
 
 slice-aggregate-add-cone : tie.Need-slice-aggregate-add-cone
-slice-aggregate-add-cone c = front-count (c .before .before .before .before .before .before .before .before .before .before .part .ensures .0)
+slice-aggregate-add-cone c = front-count (c .before .before .before .before .before .part .ensures .0)
 
 add-cone-requires : tie.Need-add-cone-requires
 add-cone-requires c κs =
-    let q = c .before .before .before .before .before .before .before .before .before .before .before .part in
-    let s = c .before .before .before .before .before .before .before .before .before .before .before .before .before .before .before .before in
-    let k = c .before .before .before .before .before .mark-all in (
-      marks-kept (s .pre .2) (k .kept .0),
-      k .ensures .0,
-      front-faces (q .ensures .0) (s .pre .4) (s .pre .0),
+    let q = c .before .before .before .before .before .before .part in
+    let s = c .before .before .before .before .before .before .before .before .before .before .before in (
+      s .pre .2 .mark-table,
+      s .pre .3,
+      front-faces (q .ensures .0) (omega arith) (s .pre .0),
       omega (arith, s .pre .0 .touch, accepted-few (s .pre .0 .sound)),
-      omega (arith, kept-few (q .ensures .0), length-take (s .args .n) (s .args .table .now), s .pre .5, q .kept .0),
+      omega (arith, kept-few (q .ensures .0), length-take (s .args .n) (s .args .table .now), s .pre .4, q .kept .0),
     )
 
 same-length : tie.Need-same-length
@@ -60,24 +44,24 @@ same-length-4 c = search needs
 
 returns : tie.Need-returns
 returns c =
-    let q = c .before .before .before .before .before .before .before .before .before .before .before .before .before .before .part in
-    let s = c .before .before .before .before .before .before .before .before .before .before .before .before .before .before .before .before .before .before .before in
-    let a = c .before .before .add-cone in
-    (step-poured (q .ensures .0) (omega (arith, kept-few (q .ensures .0), length-take (s .args .n) (s .args .table .now), s .pre .5)) (q .kept .0) (a .ensures), (λ l. absurd (omega (arith, c .if1 .taken, a .kept .0, q .kept .0)), c .before .before .before .before .before .before .before .before .mark-all .ensures .1))
+    let q = c .before .before .before .before .before .before .before .before .before .before .before .part in
+    let s = c .before .before .before .before .before .before .before .before .before .before .before .before .before .before .before .before in
+    let a = c .before .before .before .before .add-cone in
+    (step-poured (q .ensures .0) (omega (arith, kept-few (q .ensures .0), length-take (s .args .n) (s .args .table .now), s .pre .4)) (q .kept .0) (a .ensures .0), (λ l. absurd (omega (arith, c .if1 .taken, a .kept .0, q .kept .0)), a .ensures .1))
 
 put-planes-requires : tie.Need-put-planes-requires
 put-planes-requires c κs =
-    let q = c .before .before .before .before .before .before .before .before .before .before .before .before .before .before .before .before .part in
-    let s = c .before .before .before .before .before .before .before .before .before .before .before .before .before .before .before .before .before .before .before .before .before in
-    let a = c .before .before .before .before .add-cone in
-    let few : q .result .kept ≤ length (s .args .table .now) = omega (arith, kept-few (q .ensures .0), length-take (s .args .n) (s .args .table .now), s .pre .5) in
-    let g = a .ensures .laid (omega (arith, a .ensures .most, a .kept .0, c .before .before .if1 .left)) in
-    let d = step-poured (q .ensures .0) few (q .kept .0) (a .ensures) .laid (omega (arith, a .ensures .most, a .kept .0, q .kept .0, c .before .before .if1 .left)) in (
+    let q = c .before .before .before .before .before .before .before .before .before .before .before .before .before .part in
+    let s = c .before .before .before .before .before .before .before .before .before .before .before .before .before .before .before .before .before .before in
+    let a = c .before .before .before .before .before .before .add-cone in
+    let few : q .result .kept ≤ length (s .args .table .now) = omega (arith, kept-few (q .ensures .0), length-take (s .args .n) (s .args .table .now), s .pre .4) in
+    let g = a .ensures .0 .laid (omega (arith, a .ensures .0 .most, a .kept .0, c .before .before .if1 .left)) in
+    let d = step-poured (q .ensures .0) few (q .kept .0) (a .ensures .0) .laid (omega (arith, a .ensures .0 .most, a .kept .0, q .kept .0, c .before .before .if1 .left)) in (
       s .pre .0 .sound,
       planed-before (q .ensures .1) g (omega (arith, few, q .kept .0)),
       omega (arith, g .next),
-      omega (arith, a .ensures .most, a .kept .0),
-      omega (arith, a .ensures .most, q .kept .0, q .kept .1 .0, s .pre .6),
+      omega (arith, a .ensures .0 .most, a .kept .0),
+      omega (arith, a .ensures .0 .most, q .kept .0, q .kept .1 .0, s .pre .2 .planes-long),
       λ j x y. step-faces (s .pre .0) d j y,
     )
 
@@ -95,19 +79,16 @@ same-length-8 c = search needs
 
 returns-2 : tie.Need-returns-2
 returns-2 c =
-    let q = c .before .before .before .before .before .before .before .before .before .before .before .before .before .before .before .before .before .before .part in
-    let s = c .before .before .before .before .before .before .before .before .before .before .before .before .before .before .before .before .before .before .before .before .before .before .before in
-    let a = c .before .before .before .before .before .before .add-cone in
-    (step-poured (q .ensures .0) (omega (arith, kept-few (q .ensures .0), length-take (s .args .n) (s .args .table .now), s .pre .5)) (q .kept .0) (a .ensures), (λ l. c .before .put-planes .ensures, c .before .before .before .before .before .before .before .before .before .before .before .before .mark-all .ensures .1))
+    let q = c .before .before .before .before .before .before .before .before .before .before .before .before .before .before .before .part in
+    let s = c .before .before .before .before .before .before .before .before .before .before .before .before .before .before .before .before .before .before .before .before in
+    let a = c .before .before .before .before .before .before .before .before .add-cone in
+    (step-poured (q .ensures .0) (omega (arith, kept-few (q .ensures .0), length-take (s .args .n) (s .args .table .now), s .pre .4)) (q .kept .0) (a .ensures .0), (λ l. c .before .put-planes .ensures, a .ensures .1))
 
 pub step-spec : {M : Type 1} → statement M
 step-spec =
     tie.close
     (tie.spec
     part-requires
-    slice-reshare-prefix-mark-all
-    slice-aggregate-mark-all
-    mark-all-requires
     slice-reshare-prefix-add-cone
     slice-aggregate-add-cone
     add-cone-requires

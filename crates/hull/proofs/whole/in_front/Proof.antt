@@ -6,8 +6,8 @@ use mir.Syntax.{w32}
 use mir.ValLaws.{toZ-ofZ}
 use Rattle.volume.specs.Volume.{signOf}
 use Rattle.volume.proofs.SignLaws.{sign-below}
+use Rattle.points.proofs.NumberLaws.{back}
 use Rattle.hull.specs.Whole.{readAt}
-use Rattle.hull.proofs.NumberLaws.{back}
 use Rattle.hull.proofs.whole.in_front.Statement.{statement}
 use Rattle.hull.proofs.whole.in_front.Tie as tie
 

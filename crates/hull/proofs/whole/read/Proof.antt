@@ -6,9 +6,9 @@ use mir.Syntax.{w64}
 use Rattle.laws.proofs.Words.{r-i64, r-sub, fits, stored, size}
 use Rattle.touches.specs.declared.Point.{Point}
 use Rattle.volume.specs.Volume.{dot}
-use Rattle.hull.specs.Whole.{slope}
-use Rattle.hull.proofs.NumberLaws.{rd, passed}
-use Rattle.hull.proofs.WholeLaws.{gap-near}
+use Rattle.points.specs.Whole.{slope}
+use Rattle.points.proofs.NumberLaws.{rd, passed}
+use Rattle.points.proofs.PlaneLaws.{gap-near}
 use Rattle.hull.proofs.whole.read.Statement.{statement}
 use Rattle.hull.proofs.whole.read.Tie as tie
 

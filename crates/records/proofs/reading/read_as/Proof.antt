@@ -29,10 +29,13 @@ enum-known-list c = search needs
 mul-m : tie.Need-mul-m
 mul-m c = record { fits = omega (arith, opened-few (c .before .before .before .before .check-record .ensures) (c .before .list .given .1)) }
 
+because-requires : tie.Need-because-requires
+because-requires c κs = search needs
+
 returns : tie.Need-returns
 returns c =
-    let l = c .before .before in
-    gives-11 (l .before .before .before .check-record .ensures) (l .list .given .1) (c .if1 .taken)
+    let l = c .before .before .before in
+    rw (c .because .ensures) (gives-11 (l .before .before .before .check-record .ensures) (l .list .given .1) (c .before .if1 .taken))
 
 array-share-prefix-room : tie.Need-array-share-prefix-room
 array-share-prefix-room c = few c
@@ -67,6 +70,7 @@ read-as-spec =
     enum-known-x
     enum-known-list
     mul-m
+    because-requires
     returns
     array-share-prefix-room
     slice-aggregate-lay-over

@@ -31,11 +31,14 @@ mul-if1 c = record { fits = omega (arith, few (c .before .before)) }
 add-if1 : tie.Need-add-if1
 add-if1 c = record { fits = omega (arith, few (c .before .before)) }
 
+because-requires : tie.Need-because-requires
+because-requires c κs = search needs
+
 returns : tie.Need-returns
 returns c =
-    let l = c .before .before .before in
+    let l = c .before .before .before .before in
     let a = l .before .before .before .before .args in
-    gives-12 (a .version) (a .coords .now) (passed l) (c .if1 .taken)
+    rw (c .because .ensures) (gives-12 (a .version) (a .coords .now) (passed l) (c .before .if1 .taken))
 
 put-record-requires : tie.Need-put-record-requires
 put-record-requires c κs =
@@ -67,6 +70,7 @@ write-as-spec =
     enum-known-list
     mul-if1
     add-if1
+    because-requires
     returns
     put-record-requires
     returns-2

@@ -1,0 +1,4 @@
+pub mod BoundsLaws
+pub mod PlumbedLaws
+pub mod OwnRoomLaws
+pub mod PlumbCallLaws

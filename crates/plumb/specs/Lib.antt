@@ -1,0 +1,3 @@
+pub mod Fractions
+pub mod Bounds
+pub mod Plumb
