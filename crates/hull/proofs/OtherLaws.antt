@@ -1,12 +1,12 @@
 -- The next touch that is not of the start.
-use mathlib.Core.Path.{_≡_, sym, ap, subst, _∙_}
+use mathlib.Core.Path.{_≡_, refl, sym, ap, subst, _∙_}
 use mathlib.Core.Logic.{_⊎_, inl, inr, _≢_}
-use mathlib.Core.Bool.{Bool, true, false, not, cond, _||_}
+use mathlib.Core.Bool.{Bool, true, false, not, cond, or-true}
 use Prim.Native.Nat.{ℕ, _+_, _<_, _≤_}
 use native.Mathlib.Omega.{arith}
 use borrow.Author.Tests.{eq-eqb, ne-eqb, leb-false, le-ltb}
-use lib.Dec.{T, eqb, eqb-refl, leb, leb→le, ltb, ltb→lt}
-use Rattle.laws.proofs.Tests.{by-test, T-or, is-true, is-false, or-left, or-right, same-or}
+use lib.Dec.{T, leb, leb→le, ltb, ltb→lt}
+use Rattle.laws.proofs.Tests.{by-test, T-or, is-false, same-or}
 use Rattle.rules.specs.Start.{isStart, Start as Four}
 use Rattle.hull.specs.Start.{past, nextOther}
 
@@ -33,9 +33,12 @@ past-still r t u l d q = go (same-or r t)
     go (inr f) = d (sym (past-other f) ∙ q)
 
 -- the numbers from k up to r are of the start
-record Skips (s : Four) (k r : ℕ) : Type 0 where
-  from : k ≤ r
-  skipped : (j : ℕ) → k ≤ j → j < r → isStart s j ≡ true
+pub record Skips (s : Four) (k r : ℕ) : Type 0 where
+  pub from : k ≤ r
+  pub skipped : (j : ℕ) → k ≤ j → j < r → isStart s j ≡ true
+
+nothing : {s : Four} {k : ℕ} → Skips s k k
+nothing = record { from = omega arith; skipped = λ j x l. absurd (omega arith) }
 
 skips-past : {s : Four} {k r : ℕ} (t : ℕ) → isStart s t ≡ true → Skips s k r → Skips s k (past r t)
 skips-past {s} {k} {r} t e h = go (same-or r t)
@@ -50,22 +53,21 @@ skips-past {s} {k} {r} t e h = go (same-or r t)
 
 -- ---- all four
 pub record Next (s : Four) (k r : ℕ) : Type 0 where
-  pub from : k ≤ r
-  pub skipped : (j : ℕ) → k ≤ j → j < r → isStart s j ≡ true
+  pub skips : Skips s k r
   pub here : isStart s r ≡ false
 
 module _ (s : Four) where
   start-P : isStart s (s .P) ≡ true
-  start-P = is-true (isStart s (s .P)) (or-left (eqb (s .P) (s .P)) (eqb (s .P) (s .Q) || (eqb (s .P) (s .R) || eqb (s .P) (s .S))) (eqb-refl (s .P)))
+  start-P = simp (eq-eqb (s .P) (s .P) refl)
 
   start-Q : isStart s (s .Q) ≡ true
-  start-Q = is-true (isStart s (s .Q)) (or-right (eqb (s .Q) (s .P)) (eqb (s .Q) (s .Q) || (eqb (s .Q) (s .R) || eqb (s .Q) (s .S))) (or-left (eqb (s .Q) (s .Q)) (eqb (s .Q) (s .R) || eqb (s .Q) (s .S)) (eqb-refl (s .Q))))
+  start-Q = simp (eq-eqb (s .Q) (s .Q) refl, or-true)
 
   start-R : isStart s (s .R) ≡ true
-  start-R = is-true (isStart s (s .R)) (or-right (eqb (s .R) (s .P)) (eqb (s .R) (s .Q) || (eqb (s .R) (s .R) || eqb (s .R) (s .S))) (or-right (eqb (s .R) (s .Q)) (eqb (s .R) (s .R) || eqb (s .R) (s .S)) (or-left (eqb (s .R) (s .R)) (eqb (s .R) (s .S)) (eqb-refl (s .R)))))
+  start-R = simp (eq-eqb (s .R) (s .R) refl, or-true)
 
   start-S : isStart s (s .S) ≡ true
-  start-S = is-true (isStart s (s .S)) (or-right (eqb (s .S) (s .P)) (eqb (s .S) (s .Q) || (eqb (s .S) (s .R) || eqb (s .S) (s .S))) (or-right (eqb (s .S) (s .Q)) (eqb (s .S) (s .R) || eqb (s .S) (s .S)) (or-right (eqb (s .S) (s .R)) (eqb (s .S) (s .S)) (eqb-refl (s .S)))))
+  start-S = simp (eq-eqb (s .S) (s .S) refl, or-true)
 
   not-start : {r : ℕ} → r ≢ s .P → r ≢ s .Q → r ≢ s .R → r ≢ s .S → isStart s r ≡ false
   not-start {r} p q u v = simp (ne-eqb r (s .P) p, ne-eqb r (s .Q) q, ne-eqb r (s .R) u, ne-eqb r (s .S) v)
@@ -77,11 +79,8 @@ module _ (s : Four) where
         let a = past k (s .P) in
         let b = past a (s .Q) in
         let c = past b (s .R) in
-        let none : Skips s k k = record { from = omega arith; skipped = λ j x l. absurd (omega arith) } in
-        let h = skips-past (s .S) start-S (skips-past (s .R) start-R (skips-past (s .Q) start-Q (skips-past (s .P) start-P none))) in
         record {
-          from = h .from;
-          skipped = h .skipped;
+          skips = skips-past (s .S) start-S (skips-past (s .R) start-R (skips-past (s .Q) start-Q (skips-past (s .P) start-P nothing)));
           here = not-start
               (past-still c (s .S) (s .P) (omega arith) (past-still b (s .R) (s .P) (omega arith) (past-still a (s .Q) (s .P) pq (past-apart k (s .P)))))
               (past-still c (s .S) (s .Q) (omega arith) (past-still b (s .R) (s .Q) qr (past-apart a (s .Q))))
@@ -98,7 +97,7 @@ module _ (s : Four) where
     next-after {k} l = by-test (ltb (s .S) k) k (past (past (past k (s .Q)) (s .R)) (s .S)) (Next s k) (λ t. later (ltb→lt (s .S) k t)) (λ _. tested)
       where
         later : s .S < k → Next s k k
-        later h = record { from = omega arith; skipped = λ j x y. absurd (omega arith); here = not-start (λ q. omega (arith, q)) (λ q. omega (arith, q)) (λ q. omega (arith, q)) (λ q. omega (arith, q)) }
+        later h = record { skips = nothing; here = not-start (λ q. omega (arith, q)) (λ q. omega (arith, q)) (λ q. omega (arith, q)) (λ q. omega (arith, q)) }
 
         tested : Next s k (past (past (past k (s .Q)) (s .R)) (s .S))
         tested = subst (λ (i : ℕ). Next s k (past (past (past i (s .Q)) (s .R)) (s .S))) (past-other (λ e. omega (arith, e))) (next-is k)
@@ -110,6 +109,6 @@ module _ (s : Four) where
         go : T (leb r n) ⊎ T (not (leb r n)) → r ≤ n
         go (inl t) = leb→le r n t
         go (inr t) =
-            let e = sym (h .skipped n i (leb-false r n (is-false (leb r n) t))) ∙ not-start (λ q. omega (arith, q)) (λ q. omega (arith, q)) (λ q. omega (arith, q)) (λ q. omega (arith, q)) in
+            let e = sym (h .skips .skipped n i (leb-false r n (is-false (leb r n) t))) ∙ not-start (λ q. omega (arith, q)) (λ q. omega (arith, q)) (λ q. omega (arith, q)) (λ q. omega (arith, q)) in
             let z : _≡_ {A = ℕ} 0 1 = cc in
             absurd (omega arith)

@@ -81,10 +81,10 @@ module _ {cs : List ℤ} {s : Four} (b : Begun cs s) {k m : ℕ} {table : List F
   held-next h {r} o = record { most = h .most; taken = λ u. go (h .taken u); room = h .room }
     where
       e : k + (r - k) ≡ r
-      e = omega (arith, o .from)
+      e = omega (arith, o .skips .from)
 
       go : Taken cs s k m table planes → Taken cs s r m table planes
-      go t = subst (λ (i : ℕ). Taken cs s i m table planes) e (taken-run t (r - k) (λ j a l. o .skipped j a (omega (arith, e))))
+      go t = subst (λ (i : ℕ). Taken cs s i m table planes) e (taken-run t (r - k) (λ j a l. o .skips .skipped j a (omega (arith, e))))
 
 -- the next touch that is not of the start
 module _ {cs : List ℤ} {s : Four} (b : Begun cs s) where

@@ -72,7 +72,7 @@ next-other-requires-2 c κs = search needs
 loop-less : tie.Need-loop-less Inv-loop μ-loop
 loop-less c =
     let l = c .before .before .before .before .before .before .before .before .before .before .before .before .loop in
-    omega (arith, begun-next (c .before .before .before .before .before .before .before .before .before .before .before .before .before .before .before .before .before .before .before .before .before .before .pre .0) (l .k) (c .next-other2 .ensures) .from, goes-on (l .k) _ (l .m) _ (c .before .before .before .before .before .before .before .before .before .before .before .loop-test .taken) .0)
+    omega (arith, begun-next (c .before .before .before .before .before .before .before .before .before .before .before .before .before .before .before .before .before .before .before .before .before .before .pre .0) (l .k) (c .next-other2 .ensures) .skips .from, goes-on (l .k) _ (l .m) _ (c .before .before .before .before .before .before .before .before .before .before .before .loop-test .taken) .0)
 
 loop-again : tie.Need-loop-again Inv-loop μ-loop
 loop-again c =
@@ -88,7 +88,7 @@ loop-again c =
       q .kept .1 .1 .0 ∙ l .inv .3,
       q .kept .1 .1 .1 .0 ∙ l .inv .4,
       held-next (h .0) (held-step (h .0) t (g .0) (l .inv .7) (q .kept .0) (q .ensures .0) (q .ensures .1 .0)) o,
-      fresh-later (q .ensures .1 .1) (o .from),
+      fresh-later (q .ensures .1 .1) (o .skips .from),
       o .here,
     )
 
