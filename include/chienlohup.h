@@ -34,7 +34,13 @@
     11  the lent coordinate list is too short for the record's touches
     12  the lent record buffer is too short
 
-   A call gives the first refusal, in its own order, that applies. */
+   A call gives the first refusal, in its own order, that applies.
+
+   Doubles are worked in the processor's usual rounding, to nearest, and all that is said
+   of them here is said for it. With the caller's rounding mode set otherwise they are not
+   covered: rounding downward, a reading of zero comes out as minus zero.
+
+   Of the C library the archive needs memcpy and memset, and nothing else. */
 
 #ifndef CHIENLOHUP_H
 #define CHIENLOHUP_H

@@ -1,14 +1,10 @@
-// What C links: numbers, and slices as a pointer and a length. Each call's answer is taken apart into numbers.
-use hull::build::Built;
-use hull::place::Placed;
-use plumb::Plumbed;
+// What C links: numbers, and slices as a pointer and a length.
+use numbers::wide8;
+use numbers::wide16;
 use records::Numbers;
 use touches::Point;
-use touches::Refusal;
 use touches::TouchNo;
 ghost use mathlib.Core.Path.{_≡_};
-ghost use mathlib.Core.List.{[], _∷_, _++_};
-ghost use lib.IntN.{pos};
 ghost use Prim.Native.Nat.{_≤_};
 ghost use lib.ListN.{length};
 ghost use Rattle.planes.specs.Planes.{planed, planedRefusal, planedPlane, planeReading, readingRefusal, readingValue};
@@ -17,96 +13,12 @@ ghost use Rattle.hull.specs.Place.{placed};
 ghost use Rattle.plumb.specs.Plumb.{plumbed};
 ghost use Rattle.records.specs.Record.{plainVersion, recordOf, touchesIn};
 ghost use Rattle.records.specs.Answers.{readOf, writeOf, copyOf, listAfter, bufferAfter, readNumbers, writeNumbers};
-ghost use Rattle.chienlohup.specs.Numbers.{numbers, builtNumbers, placedKind, placedNumbers, planeNumbers, plumbedKind, plumbedNumbers, plumbedHeights, recordNumbers, one, placeAt};
-
-fn wide8(x: u8) -> i64
-    ensures { λ r. ⌜ r ≡ pos x ⌝ }
-{
-    x as i64
-}
-
-fn wide16(x: u16) -> i64
-    ensures { λ r. ⌜ r ≡ pos x ⌝ }
-{
-    x as i64
-}
+ghost use Rattle.numbers.specs.Numbers.{numbers, builtNumbers, placedNumbers, planeNumbers, plumbedNumbers, plumbedHeights, recordNumbers, one, placeAt};
 
 fn wide32(x: i32) -> i64
     ensures { λ r. ⌜ r ≡ x ⌝ }
 {
     x as i64
-}
-
-// The number and the place of a refusal; both 0 where there is none.
-fn said(r: Refusal) -> [i64; 2]
-    ensures { λ o. ⌜ o ≡ numbers r ⌝ }
-{
-    let number = r.number;
-    let place = r.place.0;
-    [wide8(number), wide16(place)]
-}
-
-// The same, and two values after them.
-fn said_with(r: Refusal, a: i64, b: i64) -> [i64; 4]
-    ensures { λ o. ⌜ o ≡ numbers r ++ (a ∷ b ∷ []) ⌝ }
-{
-    let number = r.number;
-    let place = r.place.0;
-    [wide8(number), wide16(place), a, b]
-}
-
-fn built_numbers(a: Built) -> [i64; 4]
-    ensures { λ o. ⌜ o ≡ builtNumbers a ⌝ }
-{
-    said_with(a.refusal(), wide16(a.face_count()), a.volume())
-}
-
-// 0 refused, 1 outside, 2 on, 3 inside: counted apart from the refusals.
-fn kind(a: Placed) -> u16
-    ensures { λ r. ⌜ r ≡ placedKind a ⌝ }
-{
-    match a {
-        Placed::Outside(_) => 1,
-        Placed::On(_) => 2,
-        Placed::Inside => 3,
-        Placed::Refused(_) => 0,
-    }
-}
-
-fn placed_numbers(a: Placed) -> [i64; 4]
-    ensures { λ o. ⌜ o ≡ placedNumbers a ⌝ }
-{
-    let f = a.face();
-    said_with(a.refusal(), wide16(kind(a)), wide16(f.0))
-}
-
-// 0 refused, 1 misses, 2 touches, 3 goes through: counted apart from the refusals, and from where a place lies.
-fn line_kind(a: Plumbed) -> u16
-    ensures { λ r. ⌜ r ≡ plumbedKind a ⌝ }
-{
-    match a {
-        Plumbed::Misses => 1,
-        Plumbed::Touches(_) => 2,
-        Plumbed::Through(_, _) => 3,
-        Plumbed::Refused(_) => 0,
-    }
-}
-
-fn plumbed_numbers(a: Plumbed) -> [i64; 3]
-    ensures { λ o. ⌜ o ≡ plumbedNumbers a ⌝ }
-{
-    let r = a.refusal();
-    let number = r.number;
-    let place = r.place.0;
-    [wide8(number), wide16(place), wide16(line_kind(a))]
-}
-
-fn plumbed_heights(a: Plumbed) -> [f64; 2]
-    ensures { λ h. ⌜ h ≡ plumbedHeights a ⌝ }
-{
-    let entry = a.entry();
-    let exit = a.exit();
-    [entry, exit]
 }
 
 // A record's numbers: its count of touches or bytes is small.
@@ -135,7 +47,7 @@ pub extern "C" fn chienlohup_build(touches: &[i32], faces: &mut [u16], out: &mut
     ensures said { λ r. ⌜ now (out .exit) ≡ builtNumbers (built (now (touches .entry)) (now (faces .entry))) ⌝ }
     ensures table { λ r. ⌜ now (faces .exit) ≡ tableAfter (built (now (touches .entry)) (now (faces .entry))) (hullOf (now (touches .entry))) (now (faces .entry)) ⌝ }
 {
-    *out = built_numbers(hull::build::build(touches, faces));
+    *out = numbers::built_numbers(hull::build::build(touches, faces));
 }
 
 #[no_mangle]
@@ -149,7 +61,7 @@ pub extern "C" fn chienlohup_place(
 )
     ensures { λ r. ⌜ now (out .exit) ≡ placedNumbers (placed (now (touches .entry)) (now (faces .entry)) (placeAt x y z)) ⌝ }
 {
-    *out = placed_numbers(hull::place::place(touches, faces, place_at(x, y, z)));
+    *out = numbers::placed_numbers(hull::place::place(touches, faces, place_at(x, y, z)));
 }
 
 #[no_mangle]
@@ -165,9 +77,8 @@ pub extern "C" fn chienlohup_plane(
     ensures plane { λ r. ⌜ now (plane .exit) ≡ planeNumbers (planedPlane (planed (now (touches .entry)) a b c)) ⌝ }
 {
     let answer = planes::plane_of(touches, TouchNo(a), TouchNo(b), TouchNo(c));
-    let p = answer.plane();
-    *out = said(answer.refusal());
-    *plane = [p.x, p.y, p.z, p.offset];
+    *out = numbers::planed_said(answer);
+    *plane = numbers::plane_numbers(answer);
 }
 
 #[no_mangle]
@@ -187,8 +98,8 @@ pub extern "C" fn chienlohup_plane_reading(
 {
     let q = place_at(x, y, z);
     let answer = planes::plane_reading(touches, TouchNo(a), TouchNo(b), TouchNo(c), q);
-    *out = said(answer.refusal());
-    *reading = [answer.value()];
+    *out = numbers::reading_said(answer);
+    *reading = numbers::reading_number(answer);
 }
 
 #[no_mangle]
@@ -203,8 +114,8 @@ pub extern "C" fn chienlohup_plumb(
     ensures heights { λ r. ⌜ now (heights .exit) ≡ plumbedHeights (plumbed (now (touches .entry)) x y) ⌝ }
 {
     let answer = plumb::plumb(touches, wide32(x), wide32(y));
-    *out = plumbed_numbers(answer);
-    *heights = plumbed_heights(answer);
+    *out = numbers::plumbed_numbers(answer);
+    *heights = numbers::plumbed_heights(answer);
 }
 
 #[no_mangle]

@@ -25,6 +25,7 @@ use Rattle.hull.specs.declared.build.Built.the-variants.{Hull, Refused}
 
 -- building cs into the table old gave n faces and the volume v, and h is the hull
 pub record Inverted (cs : List ℤ) (old : List ℕ) (n : ℕ) (v : ℤ) (h : List Face) : Type 0 where
+  pub answer : built cs old ≡ Hull n v
   pub sound : Sound cs
   pub is : hullOf cs ≡ some h
   pub count : n ≡ length h
@@ -40,7 +41,7 @@ inverted cs old {n} {v} e = list (checked cs) refl e
     fits d h i true r f =
         let c : n ≡ length h = cc in
         let t : tableAfter (built cs old) (hullOf cs) old ≡ lay 0 (lent h) old = λ j. tableAfter (e j) (i j) old in
-        (h, record { sound = d; is = i; count = c; sum = cc; fits = leb-true (length h) (room old) r; table = t; part = (λ j. firstFaces (c j) (t j)) ∙ part-laid h old })
+        (h, record { answer = e; sound = d; is = i; count = c; sum = cc; fits = leb-true (length h) (room old) r; table = t; part = (λ j. firstFaces (c j) (t j)) ∙ part-laid h old })
     fits d h i false r f = let z : _≡_ {A = ℕ} 0 1 = cc in absurd (omega arith)
 
     hull : Sound cs → (o : Option (List Face)) → hullOf cs ≡ o → builtFrom (touch cs) (room old) o ≡ Hull n v → (h : List Face) × Inverted cs old n v h

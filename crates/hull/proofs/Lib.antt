@@ -7,5 +7,5 @@ pub mod RaiseLaws
 pub mod SumLaws
 pub mod BuildLaws
 pub mod PlaceLaws
-pub mod CallLaws
 pub mod Inversion
+pub mod CallLaws

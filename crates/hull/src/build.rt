@@ -16,41 +16,11 @@ ghost use Rattle.touches.specs.Touches.{touch, touchCount, Sound};
 ghost use Rattle.rules.specs.Building.{volume};
 ghost use Rattle.hull.specs.Whole.{Planed};
 ghost use Rattle.hull.specs.Inner.{Ready, Builds};
-ghost use Rattle.hull.specs.Build.{hullOf, built, tableAfter, builtRefusal, builtCount, builtVolume};
+ghost use Rattle.hull.specs.Build.{hullOf, built, tableAfter};
 
 pub enum Built {
     Hull(u16, i64),
     Refused(Refusal),
-}
-
-// The answer's refusal, number 0 where there is none; its face count and volume, 0 where it is refused.
-impl Built {
-    pub fn refusal(self) -> Refusal
-        ensures { λ r. ⌜ r ≡ builtRefusal self ⌝ }
-    {
-        match self {
-            Built::Hull(_, _) => Refusal::none(),
-            Built::Refused(r) => r,
-        }
-    }
-
-    pub fn face_count(self) -> u16
-        ensures { λ r. ⌜ r ≡ builtCount self ⌝ }
-    {
-        match self {
-            Built::Hull(n, _) => n,
-            Built::Refused(_) => 0,
-        }
-    }
-
-    pub fn volume(self) -> i64
-        ensures { λ r. ⌜ r ≡ builtVolume self ⌝ }
-    {
-        match self {
-            Built::Hull(_, v) => v,
-            Built::Refused(_) => 0,
-        }
-    }
 }
 
 // The sum of V(face, touch 0).

@@ -5,25 +5,25 @@ use points::touch::touch;
 use touches::Point;
 use touches::TouchNo;
 ghost use mathlib.Core.Path.{_≡_};
-ghost use Rattle.touches.specs.Touches.{touch, Near, Sound};
+ghost use Rattle.touches.specs.Touches.{touch, plain, Near, Sound};
 ghost use Rattle.volume.specs.Volume.{signOf, mostVolume};
 ghost use Rattle.rules.specs.Faces.{faceVol};
 ghost use Rattle.rules.specs.Demands.{FaceOf};
 ghost use Rattle.points.specs.Sizes.{Number};
 
-fn face_volume(coords: &[i32], f: [u16; 3], q: Point) -> i64
-    requires { ⌜ Sound (now coords) × FaceOf (now coords) f × Near q ⌝ }
-    ensures { λ r. ⌜ Number mostVolume (faceVol (touch (now (coords .entry))) f q) r ⌝ }
+fn face_volume(coords: &[i32], f: [TouchNo; 3], q: Point) -> i64
+    requires { ⌜ Sound (now coords) × FaceOf (now coords) (plain f) × Near q ⌝ }
+    ensures { λ r. ⌜ Number mostVolume (faceVol (touch (now (coords .entry))) (plain f) q) r ⌝ }
 {
-    let a = touch(coords, TouchNo(f[0]));
-    let b = touch(coords, TouchNo(f[1]));
-    let c = touch(coords, TouchNo(f[2]));
+    let a = touch(coords, f[0]);
+    let b = touch(coords, f[1]);
+    let c = touch(coords, f[2]);
     volume(a, b, c, q)
 }
 
-pub(crate) fn face_sign(coords: &[i32], f: [u16; 3], q: Point) -> i32
-    requires { ⌜ Sound (now coords) × FaceOf (now coords) f × Near q ⌝ }
-    ensures { λ r. ⌜ r ≡ signOf (faceVol (touch (now (coords .entry))) f q) ⌝ }
+pub(crate) fn face_sign(coords: &[i32], f: [TouchNo; 3], q: Point) -> i32
+    requires { ⌜ Sound (now coords) × FaceOf (now coords) (plain f) × Near q ⌝ }
+    ensures { λ r. ⌜ r ≡ signOf (faceVol (touch (now (coords .entry))) (plain f) q) ⌝ }
 {
     sign(face_volume(coords, f, q))
 }

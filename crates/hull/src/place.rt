@@ -10,7 +10,7 @@ ghost use Rattle.touches.specs.Touches.{touch, touchCount, Near, Sound};
 ghost use Rattle.rules.specs.Placing.{lies};
 ghost use Rattle.table.specs.Table.{facesIn, usable};
 ghost use Rattle.hull.specs.Inner.{earlier, settled};
-ghost use Rattle.hull.specs.Place.{placedBy, placed, placedRefusal, placedFace};
+ghost use Rattle.hull.specs.Place.{placedBy, placed};
 
 pub enum Placed {
     Outside(FaceNo),
@@ -23,31 +23,6 @@ pub enum Placed {
 enum First {
     Nowhere,
     At(FaceNo),
-}
-
-// The answer's refusal, number 0 where there is none; the face that it names, 0 where it names none.
-impl Placed {
-    pub fn refusal(self) -> Refusal
-        ensures { λ r. ⌜ r ≡ placedRefusal self ⌝ }
-    {
-        match self {
-            Placed::Outside(_) => Refusal::none(),
-            Placed::On(_) => Refusal::none(),
-            Placed::Inside => Refusal::none(),
-            Placed::Refused(r) => r,
-        }
-    }
-
-    pub fn face(self) -> FaceNo
-        ensures { λ r. ⌜ r ≡ placedFace self ⌝ }
-    {
-        match self {
-            Placed::Outside(f) => f,
-            Placed::On(f) => f,
-            Placed::Inside => FaceNo(0),
-            Placed::Refused(_) => FaceNo(0),
-        }
-    }
 }
 
 // Face f is the first, if it is of the kind and none was before it.

@@ -66,7 +66,7 @@ pub(crate) fn put_planes(
 {
     let mut i = start;
     while i < n {
-        planes[i] = plane_on(coords, faces[i]);
+        planes[i] = plane_on(coords, touches::corners(faces[i]));
         i += 1;
     }
 }

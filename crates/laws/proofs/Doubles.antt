@@ -1,5 +1,5 @@
--- Floats that hold integers. `Holds x z`: the finite x has exactly the value z; of zero, either sign. Over it: the sum, difference, product, negation, comparisons,
--- casts, and that x + 0.0 is `ofInt f z`, whose zero is +0. Assumes nothing.
+-- Floats that hold integers, `Holds x z`: the sum, difference, product, negation, comparisons, casts, and that x + 0.0 is `ofInt f z`, whose zero is +0.
+-- Assumes nothing.
 use mathlib.Core.Path.{_≡_, refl, sym, ap, ap₂, _∙_, subst}
 use Prim.Native.Nat.{ℕ, zero, suc, _+_, _-_, _*_, _^_, _≤_, _<_, zero-le}
 use native.Mathlib.Nat.{mul-one, mul-comm, mul-assoc, mul-pos, mul-sub, add-zero, zero-mul, zero-lt-suc, mul-lt-mul-of-pos-right, mul-le-mul-right, eq-of-mul-eq-mul-right}
@@ -15,22 +15,12 @@ use lib.Ieee.Scale.{round-same}
 use lib.Ieee.Back.{round-whole}
 use lib.Ieee.Bits.{is-true}
 use Rattle.laws.specs.Numbers.{eqZ}
+use Rattle.laws.specs.Doubles.{signed, Holds}
 use Rattle.laws.proofs.Tests.{by-test, same-test, and-true}
 use Rattle.laws.proofs.Integers as I
 use Rattle.laws.proofs.Integers.{ext, sum-is, up-neg, dn-neg, *ℤ-neg, neg-*ℤ}
 use Rattle.laws.proofs.Order.{pos-is}
 use Rattle.laws.proofs.WithinLaws.{abs-neg}
-
--- ±n
-abbrev pub signed : Bool → ℕ → ℤ
-signed false n = pos n
-signed true n = negℤ (pos n)
-
-pub record Holds (x : Float) (z : ℤ) : Type 0 where
-  pub sign : Bool
-  pub size : ℕ
-  pub value : HasValue x sign size 1
-  pub is : signed sign size ≡ z
 
 -- ---- a test with a known answer
 pub yes-is : (a b : ℕ) → a < b → ltb a b ≡ true

@@ -1,14 +1,15 @@
 -- `Exact B x z`: the f64 x holds the integer z, and z is at most B in size. A chain of sums and products is a term of the same shape as the code,
 -- where each step's side condition is a test of numerals, `tt`. Assumes nothing.
-use mathlib.Core.Path.{_≡_, sym, subst}
+use mathlib.Core.Path.{_≡_, refl, sym, ap, subst, _∙_}
 use Prim.Native.Nat.{ℕ, _+_, _*_, _^_, _≤_}
 use native.Mathlib.Nat.{le-trans}
 use lib.Dec.{T, leb, leb→le}
-use lib.IntN.{ℤ, negℤ, natAbs, _+ℤ_, _-ℤ_, _*ℤ_}
-use lib.Ieee.{Float, binary64, add, sub, mul, neg, ofInt, ofBits}
+use lib.IntN.{ℤ, pos, negℤ, natAbs, _+ℤ_, _-ℤ_, _*ℤ_}
+use lib.Ieee.{Float, binary64, add, sub, mul, neg, ofInt, ofBits, round}
 use Rattle.laws.specs.Numbers.{Within}
+use Rattle.laws.specs.Doubles.{double, plusZero, Holds, Exactly}
 use Rattle.laws.proofs.WithinLaws.{within-add, within-sub, within-mul, within-neg}
-use Rattle.laws.proofs.Doubles.{Holds, add-holds, sub-holds, mul-holds, neg-holds, ofInt-holds, plus-zero64}
+use Rattle.laws.proofs.Doubles.{add-holds, sub-holds, mul-holds, neg-holds, ofInt-holds, plus-zero64}
 
 pub record Exact (B : ℕ) (x : Float) (z : ℤ) : Type 0 where
   pub holds : Holds x z
@@ -42,3 +43,11 @@ e-plus0 {A} {x} {a} t h = subst (λ (y : Float). Exact A y a) (sym (e-done h)) (
 -- from a contract that says x ≡ ofInt binary64 z
 pub e-of : {A : ℕ} {x : Float} {z : ℤ} → T (leb A (2 ^ 53)) → x ≡ ofInt binary64 z → Within A z → Exact A x z
 e-of {A} {x} {z} t e h = subst (λ (y : Float). Exact A y z) (sym e) (e-int t h)
+
+-- ---- the double of a whole number within 2^53 is exactly that number
+pub plus-zero-is : plusZero ≡ double (pos 0)
+unfolding ofInt ofBits round
+plus-zero-is = refl
+
+pub e-exactly : {B : ℕ} {z : ℤ} → T (leb B (2 ^ 53)) → Within B z → Exactly (double z) z
+e-exactly t h = record { value = e-int t h .holds; zero = λ e. ap double e ∙ sym plus-zero-is }

@@ -48,6 +48,10 @@ module _ {A : Type 0} where
   unfolding lay
   lay-first new old = take-append-seam new _
 
+  pub lay-rest : (new old : List A) → drop (length new) (lay 0 new old) ≡ drop (length new) old
+  unfolding lay
+  lay-rest new old = let z : 0 + length new ≡ length new = omega arith in rw (z, drop-at new (drop (length new) old) (length new) refl)
+
 -- ---- Laid
 module _ {A : Type 0} {at r : ℕ} {new old after : List A} (h : Laid at new old r after) where
   pub length-laid : at + length new ≤ length old → length after ≡ length old

@@ -11,13 +11,14 @@ use mir.Val.{SFits, toZ, ofZ}
 use mathlib.Core.Bool.{false}
 use Rattle.laws.specs.Numbers.{Within}
 use Rattle.laws.specs.Lists.{Laid}
+use Rattle.laws.specs.Doubles.{Holds}
 use Rattle.laws.specs.Fractions.{compared as comparedFractions}
 use Rattle.laws.proofs.Integers.{sum-is}
 use Rattle.laws.proofs.Order.{zs, mul-nonneg, sub-nonneg}
 use Rattle.laws.proofs.Ring.{var, lit, _:+_, _:-_, _:*_, ring}
 use Rattle.laws.proofs.Certificates.{order, combine, le, lt as below}
 use Rattle.laws.proofs.Words.{Reads, r-i32, r-sub, r-mul, fits, stored}
-use Rattle.laws.proofs.Doubles.{Holds, lt-is, div-holds}
+use Rattle.laws.proofs.Doubles.{lt-is, div-holds}
 use Rattle.laws.proofs.Exact.{Exact, e-sub, e-mul, e-done}
 use Rattle.laws.proofs.Tables.{laid-then}
 use Rattle.laws.proofs.Fractions.{parts-nat, whole-less, whole-same, compared-turned}

@@ -4,11 +4,13 @@ use records::ReadAnswer;
 use touches::FaceNo;
 use touches::Refusal;
 use touches::TouchList;
+use touches::TouchNo;
 ghost use mathlib.Core.Path.{_≡_};
 ghost use mathlib.Core.List.{[], _∷_, _++_};
 ghost use Prim.Native.Nat.{_+_, _*_, _<_, _≤_};
 ghost use lib.ListN.{length, take};
 ghost use Rattle.laws.specs.Lists.{Laid};
+ghost use Rattle.touches.specs.Touches.{plain};
 ghost use Rattle.table.specs.Table.{room, facesIn};
 ghost use Rattle.text.specs.Decimal.{decimal, whole, newline};
 ghost use Rattle.text.specs.Room.{Put, Front};
@@ -69,14 +71,14 @@ fn put_hull(out: &mut [u8], n: u16, v: i64) -> usize
     put_volume(out, b, v)
 }
 
-fn put_face(out: &mut [u8], at: usize, f: [u16; 3]) -> usize
+fn put_face(out: &mut [u8], at: usize, f: [TouchNo; 3]) -> usize
     requires { ⌜ at + faceRoom ≤ length (now out) ⌝ }
-    ensures laid { λ r. ⌜ Laid at (faceLine f) (now (out .entry)) r (now (out .exit)) ⌝ }
+    ensures laid { λ r. ⌜ Laid at (faceLine (plain f)) (now (out .entry)) r (now (out .exit)) ⌝ }
     ensures short { λ r. ⌜ r ≤ at + faceRoom ⌝ }
 {
-    let a = put_field(out, at, f[0], b' ');
-    let b = put_field(out, a, f[1], b' ');
-    put_field(out, b, f[2], b'\n')
+    let a = put_field(out, at, f[0].0, b' ');
+    let b = put_field(out, a, f[1].0, b' ');
+    put_field(out, b, f[2].0, b'\n')
 }
 
 // A line for each of the first n faces.

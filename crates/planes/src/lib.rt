@@ -13,7 +13,7 @@ ghost use lib.IntN.{negℤ};
 ghost use Rattle.touches.specs.Touches.{Near, Sound, touchCount};
 ghost use Rattle.volume.specs.Volume.{Vol};
 ghost use Rattle.laws.specs.Doubles.{double};
-ghost use Rattle.planes.specs.Planes.{planeOf, facePlane, planed, planedRefusal, planedPlane, planeReading, readingRefusal, readingValue};
+ghost use Rattle.planes.specs.Planes.{planeOf, facePlane, planed, planeReading};
 
 // The three parts of the normal, and its dot product with the first corner: each exactly that whole number, zero being plus zero.
 pub struct Plane {
@@ -31,52 +31,6 @@ pub enum Planed {
 pub enum Reading {
     Of(f64),
     Refused(Refusal),
-}
-
-// The answer's refusal, number 0 where there is none.
-impl Planed {
-    pub fn refusal(self) -> Refusal
-        ensures { λ r. ⌜ r ≡ planedRefusal self ⌝ }
-    {
-        match self {
-            Planed::Of(_) => Refusal::none(),
-            Planed::Refused(r) => r,
-        }
-    }
-
-    pub fn plane(self) -> Plane
-        ensures { λ r. ⌜ r ≡ planedPlane self ⌝ }
-    {
-        match self {
-            Planed::Of(p) => p,
-            Planed::Refused(_) => Plane {
-                x: 0.0,
-                y: 0.0,
-                z: 0.0,
-                offset: 0.0,
-            },
-        }
-    }
-}
-
-impl Reading {
-    pub fn refusal(self) -> Refusal
-        ensures { λ r. ⌜ r ≡ readingRefusal self ⌝ }
-    {
-        match self {
-            Reading::Of(_) => Refusal::none(),
-            Reading::Refused(r) => r,
-        }
-    }
-
-    pub fn value(self) -> f64
-        ensures { λ r. ⌜ r ≡ readingValue self ⌝ }
-    {
-        match self {
-            Reading::Of(v) => v,
-            Reading::Refused(_) => 0.0,
-        }
-    }
 }
 
 fn plane_through(a: Point, b: Point, c: Point) -> Plane

@@ -4,85 +4,111 @@ use mathlib.Core.Logic.{_↔_, _⊎_, inl, inr, Iff·trans}
 use mathlib.Core.Bool.{true, _&&_}
 use mathlib.Core.List.{List}
 use mathlib.Core.Option.{some}
-use Prim.Native.Nat.{ℕ, _≤_}
+use Prim.Native.Nat.{ℕ}
 use native.Mathlib.Omega.{arith}
 use lib.IntN.{ℤ}
 use lib.Ieee.{Float}
-use lib.ListN.{length}
 use Rattle.touches.specs.declared.FaceNo.{FaceNo}
 use Rattle.touches.specs.Limits.{inRange}
 use Rattle.touches.specs.Touches.{touch, touchCount, faceNo, Sound}
 use Rattle.rules.specs.Faces.{Face}
 use Rattle.rules.specs.Placing.{on, inside, lies}
 use Rattle.rules.specs.Plumb.{Fraction, Plumb, misses, touches, through, plumb}
-use Rattle.rules.specs.Heights.{over, whole, AtMost, Below, NoneRefuses}
-use Rattle.rules.proofs.PlumbLaws.{lowest, highest, hull-reading, hull-places, line-through, misses-outside}
-use Rattle.table.specs.Table.{room, firstFaces}
+use Rattle.rules.specs.Heights.{over, whole, AtMost, Below, Equal, NoneRefuses}
+use Rattle.rules.proofs.PlumbLaws.{lowest, highest, hull-reading, hull-places, line-through, line-touches, line-misses, misses-outside}
+use Rattle.table.specs.Table.{firstFaces}
 use Rattle.hull.specs.Build.{hullOf, built, tableAfter}
 use Rattle.hull.specs.Place.{placedBy, placed}
 use Rattle.hull.specs.declared.place.Placed.{Placed}
 use Rattle.hull.specs.declared.place.Placed.the-variants.{Outside, On, Inside}
+use Rattle.hull.proofs.Inversion.{Inverted}
 use Rattle.hull.proofs.CallLaws.{call-places, by-inside, by-on}
 use Rattle.plumb.specs.Plumb.{rounded, plumbedBy, plumbed}
 use Rattle.plumb.specs.declared.Plumbed.the-variants.{Misses, Touches, Through}
 use Rattle.plumb.proofs.PlumbedLaws.{sound-plumbed, over-read}
 
-misses-goes : {u l : Float} → Misses ≡ Through u l → ⊥
-misses-goes e = let z : _≡_ {A = ℕ} 0 1 = cc in omega arith
+-- the answer tells the three readings apart
+misses-touches : {t : Float} → Misses ≡ Touches t → ⊥
+misses-touches e = let z : _≡_ {A = ℕ} 0 1 = cc in omega arith
 
-touches-goes : {t u l : Float} → Touches t ≡ Through u l → ⊥
-touches-goes e = let z : _≡_ {A = ℕ} 0 1 = cc in omega arith
+misses-through : {u l : Float} → Misses ≡ Through u l → ⊥
+misses-through e = let z : _≡_ {A = ℕ} 0 1 = cc in omega arith
+
+touches-through : {t u l : Float} → Touches t ≡ Through u l → ⊥
+touches-through e = let z : _≡_ {A = ℕ} 0 1 = cc in omega arith
 
 module _ {cs : List ℤ} (d : Sound cs) {h : List Face} (e : hullOf cs ≡ some h) (x y : ℤ) (w : inRange x && inRange y ≡ true) where
-  pub call-plumbs : plumbed cs x y ≡ plumbedBy (plumb (touch cs) h x y)
+  abbrev line : Plumb
+  line = plumb (touch cs) h x y
+
+  pub call-plumbs : plumbed cs x y ≡ plumbedBy line
   call-plumbs = sound-plumbed cs x y d ∙ sym (over-read cs x y e w refl)
 
   -- the tightest bounds
-  abbrev lower : Fraction
+  abbrev pub lower : Fraction
   lower = lowest (touch cs) (touchCount cs) e x y
 
-  abbrev upper : Fraction
+  abbrev pub upper : Fraction
   upper = highest (touch cs) (touchCount cs) e x y
 
-  -- the line goes through exactly if the upper bound is the greater as a fraction
+  -- the call gives the answer of the reading r exactly where the line's reading is r
+  answers : {r : Plumb} {E : Type 0} → (plumbedBy line ≡ plumbedBy r → line ≡ r) → (line ≡ r) ↔ E → (plumbed cs x y ≡ plumbedBy r) ↔ E
+  answers back is = ((λ k. is .0 (back (sym call-plumbs ∙ k))), (λ k. call-plumbs ∙ ap plumbedBy (is .1 k)))
+
+  three : (line ≡ misses) ⊎ (line ≡ touches upper) ⊎ (line ≡ through upper lower)
+  three = hull-reading (touch cs) (touchCount cs) e x y
+
+  -- the line goes through exactly if the upper bound is the greater as a fraction and no upright face refuses
   pub call-through : (plumbed cs x y ≡ Through (rounded upper) (rounded lower)) ↔ (NoneRefuses (touch cs) h x y × Below lower upper)
-  call-through = (
-    (λ k. line-through (touch cs) (touchCount cs) e x y .0 (go (hull-reading (touch cs) (touchCount cs) e x y) (sym call-plumbs ∙ k))),
-    (λ k. call-plumbs ∙ ap plumbedBy (line-through (touch cs) (touchCount cs) e x y .1 k)),
-  )
+  call-through = answers {r = through upper lower} (λ k. go three k) (line-through (touch cs) (touchCount cs) e x y)
     where
-      go : (plumb (touch cs) h x y ≡ misses) ⊎ (plumb (touch cs) h x y ≡ touches upper) ⊎ (plumb (touch cs) h x y ≡ through upper lower) → plumbedBy (plumb (touch cs) h x y) ≡ Through (rounded upper) (rounded lower) → plumb (touch cs) h x y ≡ through upper lower
-      go (inl a) k = absurd (misses-goes (sym (ap plumbedBy a) ∙ k))
-      go (inr (inl a)) k = absurd (touches-goes (sym (ap plumbedBy a) ∙ k))
+      go : (line ≡ misses) ⊎ (line ≡ touches upper) ⊎ (line ≡ through upper lower) → plumbedBy line ≡ Through (rounded upper) (rounded lower) → line ≡ through upper lower
+      go (inl a) k = absurd (misses-through (sym (ap plumbedBy a) ∙ k))
+      go (inr (inl a)) k = absurd (touches-through (sym (ap plumbedBy a) ∙ k))
       go (inr (inr a)) k = a
 
-  module _ (old : List ℕ) (r : length h ≤ room old) where
-    -- what the placing call says, of the table that building left, of the place over x and y at height z
-    abbrev placedAt : ℤ → Placed
-    placedAt z = placed cs (firstFaces (length h) (tableAfter (built cs old) (hullOf cs) old)) (over x y z)
+  -- it touches exactly if the two bounds are equal as fractions and no upright face refuses
+  pub call-touches : (plumbed cs x y ≡ Touches (rounded upper)) ↔ (NoneRefuses (touch cs) h x y × Equal lower upper)
+  call-touches = answers {r = touches upper} (λ k. go three k) (line-touches (touch cs) (touchCount cs) e x y)
+    where
+      go : (line ≡ misses) ⊎ (line ≡ touches upper) ⊎ (line ≡ through upper lower) → plumbedBy line ≡ Touches (rounded upper) → line ≡ touches upper
+      go (inl a) k = absurd (misses-touches (sym (ap plumbedBy a) ∙ k))
+      go (inr (inl a)) k = a
+      go (inr (inr a)) k = absurd (touches-through (sym k ∙ ap plumbedBy a))
 
-    at : (z : ℤ) → inRange z ≡ true → placedAt z ≡ placedBy (lies (touch cs) h (over x y z))
-    at z v = call-places d e old r (over x y z) (ap₂ _&&_ w v)
+  -- it misses exactly if an upright face refuses or the upper bound is the less
+  pub call-misses : (plumbed cs x y ≡ Misses) ↔ ((NoneRefuses (touch cs) h x y → ⊥) ⊎ Below upper lower)
+  call-misses = answers {r = misses} (λ k. go three k) (line-misses (touch cs) (touchCount cs) e x y)
+    where
+      go : (line ≡ misses) ⊎ (line ≡ touches upper) ⊎ (line ≡ through upper lower) → plumbedBy line ≡ Misses → line ≡ misses
+      go (inl a) k = a
+      go (inr (inl a)) k = absurd (misses-touches (sym k ∙ ap plumbedBy a))
+      go (inr (inr a)) k = absurd (misses-through (sym k ∙ ap plumbedBy a))
 
-    -- it is inside or on exactly if no upright face refuses the line and z is from the lower bound to the upper
-    pub call-between : (z : ℤ) → inRange z ≡ true → ((placedAt z ≡ Inside) ⊎ ((f : FaceNo) × (placedAt z ≡ On f))) ↔ (NoneRefuses (touch cs) h x y × AtMost lower (whole z) × AtMost (whole z) upper)
-    call-between z v = Iff·trans (to, from) (hull-places (touch cs) (touchCount cs) e x y z)
-      where
-        to : (placedAt z ≡ Inside) ⊎ ((f : FaceNo) × (placedAt z ≡ On f)) → (lies (touch cs) h (over x y z) ≡ inside) ⊎ ((i : ℕ) × (lies (touch cs) h (over x y z) ≡ on i))
-        to (inl a) = inl (by-inside (lies (touch cs) h (over x y z)) (sym (at z v) ∙ a))
-        to (inr a) = inr (a .0 .0, by-on (lies (touch cs) h (over x y z)) (sym (at z v) ∙ a .1))
+-- building was accepted too: what the placing call says, of the table that it left, of the place over x and y at height z
+module _ {cs : List ℤ} {old : List ℕ} {n : ℕ} {v : ℤ} {h : List Face} (i : Inverted cs old n v h) (x y : ℤ) (w : inRange x && inRange y ≡ true) (z : ℤ) (in-range : inRange z ≡ true) where
+  abbrev pub placedAt : Placed
+  placedAt = placed cs (firstFaces n (tableAfter (built cs old) (hullOf cs) old)) (over x y z)
 
-        from : (lies (touch cs) h (over x y z) ≡ inside) ⊎ ((i : ℕ) × (lies (touch cs) h (over x y z) ≡ on i)) → (placedAt z ≡ Inside) ⊎ ((f : FaceNo) × (placedAt z ≡ On f))
-        from (inl a) = inl (at z v ∙ ap placedBy a)
-        from (inr a) = inr (faceNo (a .0), at z v ∙ ap placedBy (a .1))
+  at : placedAt ≡ placedBy (lies (touch cs) h (over x y z))
+  at = call-places i (over x y z) (ap₂ _&&_ w in-range)
 
-    -- where the line misses, every place over x and y is outside
-    pub call-misses : plumbed cs x y ≡ Misses → (z : ℤ) → inRange z ≡ true → (f : FaceNo) × (placedAt z ≡ Outside f)
-    call-misses k z v =
-        let o = misses-outside (touch cs) (touchCount cs) e x y (by-misses (plumb (touch cs) h x y) (sym call-plumbs ∙ k)) z in
-        (faceNo (o .0), at z v ∙ ap placedBy (o .1))
-      where
-        by-misses : (r : Plumb) → plumbedBy r ≡ Misses → r ≡ misses
-        by-misses misses e = refl
-        by-misses (touches t) e = let z : _≡_ {A = ℕ} 0 1 = cc in absurd (omega arith)
-        by-misses (through u l) e = let z : _≡_ {A = ℕ} 0 1 = cc in absurd (omega arith)
+  -- it is inside or on exactly if no upright face refuses the line and z is from the lower bound to the upper
+  pub call-between : ((placedAt ≡ Inside) ⊎ ((f : FaceNo) × (placedAt ≡ On f)))
+      ↔ (NoneRefuses (touch cs) h x y × AtMost (lower (i .sound) (i .is) x y w) (whole z) × AtMost (whole z) (upper (i .sound) (i .is) x y w))
+  call-between = Iff·trans (to, from) (hull-places (touch cs) (touchCount cs) (i .is) x y z)
+    where
+      to : (placedAt ≡ Inside) ⊎ ((f : FaceNo) × (placedAt ≡ On f)) → (lies (touch cs) h (over x y z) ≡ inside) ⊎ ((j : ℕ) × (lies (touch cs) h (over x y z) ≡ on j))
+      to (inl a) = inl (by-inside (lies (touch cs) h (over x y z)) (sym at ∙ a))
+      to (inr a) = inr (a .0 .0, by-on (lies (touch cs) h (over x y z)) (sym at ∙ a .1))
+
+      from : (lies (touch cs) h (over x y z) ≡ inside) ⊎ ((j : ℕ) × (lies (touch cs) h (over x y z) ≡ on j)) → (placedAt ≡ Inside) ⊎ ((f : FaceNo) × (placedAt ≡ On f))
+      from (inl a) = inl (at ∙ ap placedBy a)
+      from (inr a) = inr (faceNo (a .0), at ∙ ap placedBy (a .1))
+
+  -- where the line misses, every place over x and y is outside
+  pub call-outside : plumbed cs x y ≡ Misses → (f : FaceNo) × (placedAt ≡ Outside f)
+  call-outside k =
+      let m = line-misses (touch cs) (touchCount cs) (i .is) x y .1 (call-misses (i .sound) (i .is) x y w .0 k) in
+      let o = misses-outside (touch cs) (touchCount cs) (i .is) x y m z in
+      (faceNo (o .0), at ∙ ap placedBy (o .1))

@@ -18,7 +18,7 @@ ghost use Rattle.rules.specs.Plumb.{between, readingOf};
 ghost use Rattle.table.specs.Table.{room};
 ghost use Rattle.plumb.specs.Fractions.{Ranged, ratio};
 ghost use Rattle.plumb.specs.Bounds.{boundsOf, RangedBounds};
-ghost use Rattle.plumb.specs.Plumb.{rounded, plumbedBy, plumbed, plumbedRefusal, plumbedEntry, plumbedExit};
+ghost use Rattle.plumb.specs.Plumb.{rounded, plumbedBy, plumbed};
 
 // The line misses, touches at a height, or enters at the upper height and leaves at the lower one.
 pub enum Plumbed {
@@ -26,42 +26,6 @@ pub enum Plumbed {
     Touches(f64),
     Through(f64, f64),
     Refused(Refusal),
-}
-
-// The answer's refusal, number 0 where there is none; the heights of entry and exit, plus zero where there are none.
-impl Plumbed {
-    pub fn refusal(self) -> Refusal
-        ensures { λ r. ⌜ r ≡ plumbedRefusal self ⌝ }
-    {
-        match self {
-            Plumbed::Misses => Refusal::none(),
-            Plumbed::Touches(_) => Refusal::none(),
-            Plumbed::Through(_, _) => Refusal::none(),
-            Plumbed::Refused(r) => r,
-        }
-    }
-
-    pub fn entry(self) -> f64
-        ensures { λ r. ⌜ r ≡ plumbedEntry self ⌝ }
-    {
-        match self {
-            Plumbed::Misses => 0.0,
-            Plumbed::Touches(z) => z,
-            Plumbed::Through(z, _) => z,
-            Plumbed::Refused(_) => 0.0,
-        }
-    }
-
-    pub fn exit(self) -> f64
-        ensures { λ r. ⌜ r ≡ plumbedExit self ⌝ }
-    {
-        match self {
-            Plumbed::Misses => 0.0,
-            Plumbed::Touches(z) => z,
-            Plumbed::Through(_, z) => z,
-            Plumbed::Refused(_) => 0.0,
-        }
-    }
 }
 
 // Both numbers are held exactly and divided once. The bottom is above 0, so a zero is plus zero.

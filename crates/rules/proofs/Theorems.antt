@@ -1,6 +1,6 @@
 -- The theorems, as demands 2 and 3 state them. p says where the touches are and n how many there are; nothing else is asked of them, but for the bound of the volume.
 use mathlib.Core.Path.{_≡_, refl, sym, _∙_, ap, subst}
-use mathlib.Core.Logic.{_↔_, _⊎_, inr}
+use mathlib.Core.Logic.{_↔_, _⊎_, inl, inr}
 use mathlib.Core.List.{List, [], _∷_, _++_}
 use mathlib.Core.Option.{Option, none, some, Option·some-injective}
 use Prim.Native.Nat.{ℕ, _+_, _*_, _-_, _%_, _≤_, _<_}
@@ -27,7 +27,7 @@ use Rattle.volume.specs.Volume.{mostVolume}
 use Rattle.rules.specs.Faces.{Face, Places, faceVol}
 use Rattle.rules.specs.Start.{Start, start}
 use Rattle.rules.specs.Building.{seen, step, after, hull, volume}
-use Rattle.rules.specs.Placing.{outside, on, inside, lies}
+use Rattle.rules.specs.Placing.{Lies, outside, on, inside, lies}
 use Rattle.rules.specs.Demands.{Flat, CornersIn, OnOrInside, Surface, Growth}
 use Rattle.rules.proofs.FaceLaws.{→unseen}
 use Rattle.rules.proofs.Hull.{Hull}
@@ -151,24 +151,29 @@ module _ (L M : List ℤ) (l : length L % 3 ≡ 0) (k : length M % 3 ≡ 0) {h :
   lists-grow = let u = hull-grows (touch L) (touch (L ++ M)) (touchCount L) (touchCount M) (λ t b. sym (join-first L M l k t b)) e in
       (u .0, ap (hull (touch (L ++ M))) (join-count L M l k) ∙ u .1, u .2)
 
-  -- the touches of M by their own numbers
+  -- the touches of M by their own numbers, and by those of the longer list
   abbrev SomeOutside : Type 0
   SomeOutside = (t : ℕ) × (t < touchCount M) × (i : ℕ) × (lies (touch L) h (touch M t) ≡ outside i)
 
-  pub lists-rise : (volume (touch L) h <ℤ volume (touch (L ++ M)) (lists-grow .0)) ↔ SomeOutside
-  lists-rise = ((λ v. to (rises-outside (lists-grow .2) .0 v)), (λ u. rises-outside (lists-grow .2) .1 (from u)))
+  abbrev Later : Type 0
+  Later = (t : ℕ) × (touchCount L ≤ t) × (t < touchCount L + touchCount M) × (i : ℕ) × (lies (touch L) h (touch (L ++ M) t) ≡ outside i)
+
+  to-own : Later → SomeOutside
+  to-own u = (u .0 - touchCount L, omega (arith, u .1, u .2), u .3, ap (lies (touch L) h) (sym (join-second L M l k (u .0 - touchCount L)) ∙ ap (touch (L ++ M)) (back (u .0) (u .1))) ∙ u .4)
     where
-      n : ℕ
-      n = touchCount L
+      back : (t : ℕ) → touchCount L ≤ t → touchCount L + (t - touchCount L) ≡ t
+      back t b = omega arith
 
-      Later : Type 0
-      Later = (t : ℕ) × (n ≤ t) × (t < n + touchCount M) × (i : ℕ) × (lies (touch L) h (touch (L ++ M) t) ≡ outside i)
+  from-own : SomeOutside → Later
+  from-own u = (touchCount L + u .0, omega arith, omega (arith, u .1), u .2, ap (lies (touch L) h) (join-second L M l k (u .0)) ∙ u .3)
 
-      to : Later → SomeOutside
-      to u = (u .0 - n, omega (arith, u .1, u .2), u .3, ap (lies (touch L) h) (sym (join-second L M l k (u .0 - n)) ∙ ap (touch (L ++ M)) (back (u .0) (u .1))) ∙ u .4)
-        where
-          back : (t : ℕ) → n ≤ t → n + (t - n) ≡ t
-          back t b = omega arith
+  pub lists-rise : (volume (touch L) h <ℤ volume (touch (L ++ M)) (lists-grow .0)) ↔ SomeOutside
+  lists-rise = ((λ v. to-own (rises-outside (lists-grow .2) .0 v)), (λ u. rises-outside (lists-grow .2) .1 (from-own u)))
 
-      from : SomeOutside → Later
-      from u = (n + u .0, omega arith, omega (arith, u .1), u .2, ap (lies (touch L) h) (join-second L M l k (u .0)) ∙ u .3)
+  pub lists-same : (SomeOutside → ⊥) → lists-grow .0 ≡ h
+  lists-same d = lists-grow .2 .same (λ t a b. lies-within (touch L) h (touch (L ++ M) t) .0 (go t a b (lies (touch L) h (touch (L ++ M) t)) refl))
+    where
+      go : (t : ℕ) → touchCount L ≤ t → t < touchCount L + touchCount M → (x : Lies) → lies (touch L) h (touch (L ++ M) t) ≡ x → (lies (touch L) h (touch (L ++ M) t) ≡ inside) ⊎ ((i : ℕ) × (lies (touch L) h (touch (L ++ M) t) ≡ on i))
+      go t a b (outside i) e = absurd (d (to-own (t, a, b, i, e)))
+      go t a b (on i) e = inr (i, e)
+      go t a b inside e = inl e

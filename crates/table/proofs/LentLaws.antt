@@ -8,6 +8,7 @@ use lib.Seq.{ext-getD, length-take-le, getD-take, take-all}
 use Rattle.laws.specs.Lists.{In, lay}
 use Rattle.laws.proofs.Members.{here, there}
 use Rattle.laws.proofs.Tables.{lay-first}
+use Rattle.touches.proofs.PlainLaws.{by-three}
 use Rattle.rules.specs.Faces.{Face}
 use Rattle.table.specs.Table.{stride, room, numbers, lent, firstFaces, faceAt, facesIn}
 use Rattle.table.proofs.TableLaws.{length-faces, face-at}
@@ -61,16 +62,9 @@ module _ (h : List Face) (old : List ℕ) where
   part-laid = rw (← length-lent h) (lay-first (lent h) old)
 
 -- ---- faces of three numbers come back as they were
-three-numbers : (f : Face) → length f ≡ 3 → numbers f ≡ f
-three-numbers [] e = absurd (omega arith)
-three-numbers (a ∷ []) e = absurd (omega arith)
-three-numbers (a ∷ b ∷ []) e = absurd (omega arith)
-three-numbers (a ∷ b ∷ c ∷ []) e = refl
-three-numbers (a ∷ b ∷ c ∷ d ∷ f) e = absurd (omega arith)
-
 all-numbers : (h : List Face) → ((f : Face) → In f h → length f ≡ 3) → map numbers h ≡ h
 all-numbers [] t = refl
-all-numbers (f ∷ h) t = ap₂ (λ (g : Face) (l : List Face). g ∷ l) (three-numbers f (t f (here refl))) (all-numbers h (λ g m. t g (there m)))
+all-numbers (f ∷ h) t = ap₂ (λ (g : Face) (l : List Face). g ∷ l) (by-three f (t f (here refl))) (all-numbers h (λ g m. t g (there m)))
 
 pub lent-back : (h : List Face) → ((f : Face) → In f h → length f ≡ 3) → facesIn (lent h) ≡ h
 lent-back h t =

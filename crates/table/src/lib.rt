@@ -1,12 +1,14 @@
 // The lent face table. No other crate knows how many numbers a face takes in it.
 use touches::FaceNo;
 use touches::TouchList;
+use touches::TouchNo;
 ghost use mathlib.Core.Path.{_≡_};
 ghost use Prim.Native.Nat.{_+_, _*_, _≤_};
-ghost use lib.Dec.{leb};
+ghost use lib.Dec.{leb, ltb};
 ghost use lib.ListN.{length, getD};
 ghost use Rattle.laws.specs.Lists.{every, lay, Laid};
 ghost use Rattle.touches.specs.Limits.{mostFaces};
+ghost use Rattle.touches.specs.Touches.{plain};
 ghost use Rattle.table.specs.Table.{stride, room, numbers, lent, faceAt, facesIn, putOver, among, usable};
 
 const STRIDE: usize = 3;
@@ -39,15 +41,15 @@ fn number(faces: &[u16], i: usize) -> u16
 }
 
 // The corners of face f.
-pub fn face(faces: &[u16], f: FaceNo) -> [u16; 3]
-    ensures { λ r. ⌜ r ≡ faceAt (now (faces .entry)) (f .0) ⌝ }
+pub fn face(faces: &[u16], f: FaceNo) -> [TouchNo; 3]
+    ensures { λ r. ⌜ plain r ≡ faceAt (now (faces .entry)) (f .0) ⌝ }
 {
     let n = f.0;
     let at = n as usize * STRIDE;
     [
-        number(faces, at),
-        number(faces, at + 1),
-        number(faces, at + 2),
+        TouchNo(number(faces, at)),
+        TouchNo(number(faces, at + 1)),
+        TouchNo(number(faces, at + 2)),
     ]
 }
 
@@ -86,10 +88,17 @@ pub fn put_faces(faces: &mut [u16], hull: &[[u16; 3]]) -> bool
     true
 }
 
-fn is_among(f: [u16; 3], n: usize) -> bool
-    ensures { λ r. ⌜ r ≡ among n f ⌝ }
+// Touch k is one of n.
+fn is_one_of(k: TouchNo, n: usize) -> bool
+    ensures { λ r. ⌜ r ≡ ltb (k .0) n ⌝ }
 {
-    ((f[0] as usize) < n) & ((f[1] as usize) < n) & ((f[2] as usize) < n)
+    (k.0 as usize) < n
+}
+
+fn is_among(f: [TouchNo; 3], n: usize) -> bool
+    ensures { λ r. ⌜ r ≡ among n (plain f) ⌝ }
+{
+    is_one_of(f[0], n) & is_one_of(f[1], n) & is_one_of(f[2], n)
 }
 
 // Each corner of each face is one of n touches.

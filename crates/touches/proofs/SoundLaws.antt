@@ -49,7 +49,7 @@ near-place q s =
     is-true (placeInRange q) (both-and (inRange (q .x) && inRange (q .y)) (inRange (q .z)) two (T-of (within-range (q .z) (s .z))))
 
 -- ---- the whole list
-no-stray : (i : ℕ) (cs : List ℤ) → strayFrom i cs ≡ Nowhere → (k : ℕ) → k < length cs → Within reach (getD cs k (pos 0))
+pub no-stray : (i : ℕ) (cs : List ℤ) → strayFrom i cs ≡ Nowhere → (k : ℕ) → k < length cs → Within reach (getD cs k (pos 0))
 unfolding strayFrom
 no-stray i [] e k h = absurd (omega arith)
 no-stray i (x ∷ cs) e k h = go (λ f j. no-stray (suc i) cs f j) (inRange x) refl e k h

@@ -7,7 +7,7 @@ use lib.IntN.{ℤ}
 use lib.ListN.{length}
 use Rattle.touches.specs.Limits.{mostTouches, inRange}
 use Rattle.touches.specs.Touches.{touchCount, touchNo}
-use Rattle.touches.specs.Refusals.{coordinatesNotInThrees, tooManyTouches, coordinateOutOfRange, because}
+use Rattle.touches.specs.Refusals.{coordinatesNotInThrees, tooManyTouches, coordinateOutOfRange, because, noRefusal}
 use Rattle.touches.specs.declared.Refusal.{Refusal}
 use Rattle.touches.specs.declared.Stray.{Stray}
 use Rattle.touches.specs.declared.Stray.the-variants.{Nowhere, At}
@@ -32,6 +32,15 @@ checked cs =
     pick (eqb (length cs % 3) 0)
     (pick (leb (length cs) (mostTouches * 3)) (ofStray (touchCount cs) (strayFrom 0 cs)) (Refused (because tooManyTouches)))
     (Refused (because coordinatesNotInThrees))
+
+-- the paper's number and place of each answer, 0 where the list passes, and its touch count, 0 where it is refused
+abbrev pub checkedRefusal : Checked → Refusal
+checkedRefusal (Accepted l) = noRefusal
+checkedRefusal (Refused r) = r
+
+abbrev pub checkedCount : Checked → ℕ
+checkedCount (Accepted l) = l .count
+checkedCount (Refused r) = 0
 
 -- a refusal of the list is the call's answer; else the call goes on
 abbrev pub ifAccepted : {A : Type 0} → Checked → (Refusal → A) → A → A

@@ -1,7 +1,7 @@
 -- 01 'Numbers': touches are lent as a coordinate list, three numbers to a touch, numbered from 0.
 use Prim.Native.Nat.{ℕ, _+_, _*_, _/_, _%_, _<_, _≤_}
 use mathlib.Core.Path.{_≡_}
-use mathlib.Core.List.{List}
+use mathlib.Core.List.{List, map}
 use lib.IntN.{ℤ, pos}
 use lib.ListN.{length, getD}
 use Rattle.laws.specs.Numbers.{Within}
@@ -19,6 +19,10 @@ touch cs k = record { x = getD cs (k * 3) (pos 0); y = getD cs (k * 3 + 1) (pos 
 
 abbrev pub touchNo : ℕ → TouchNo
 touchNo k = record { 0 = k }
+
+-- touch numbers as the code hands them on, as plain numbers
+abbrev pub plain : List TouchNo → List ℕ
+plain ks = map (λ (k : TouchNo). k .0) ks
 
 abbrev pub faceNo : ℕ → FaceNo
 faceNo k = record { 0 = k }
@@ -42,3 +46,9 @@ pub record Sound (cs : List ℤ) : Type 0 where
   pub whole : length cs % 3 ≡ 0
   pub few : length cs ≤ mostTouches * 3
   pub near : (i : ℕ) → i < length cs → Within reach (getD cs i (pos 0))
+
+-- touch k is the first with a coordinate out of range
+pub record FirstStray (cs : List ℤ) (k : ℕ) : Type 0 where
+  pub among : k < touchCount cs
+  pub far : Near (touch cs k) → ⊥
+  pub earlier : (j : ℕ) → j < k → Near (touch cs j)

@@ -3,7 +3,8 @@ ghost use mathlib.Core.Path.{_≡_};
 ghost use Prim.Native.Nat.{_*_, _≤_};
 ghost use lib.ListN.{length};
 ghost use Rattle.touches.specs.Limits.{mostTouches, limitsOf, inRange, placeInRange};
-ghost use Rattle.touches.specs.Refusals.{because, noRefusal};
+ghost use Rattle.touches.specs.Touches.{plain};
+ghost use Rattle.touches.specs.Refusals.{because};
 ghost use Rattle.touches.specs.Check.{strayFrom, checked};
 
 pub struct TouchNo(pub u16);
@@ -79,13 +80,6 @@ impl Refusal {
 
     pub const RECORD_ROOM_TOO_SMALL: u8 = 12;
 
-    // A call that succeeded: number 0, place 0.
-    pub fn none() -> Refusal
-        ensures { λ r. ⌜ r ≡ noRefusal ⌝ }
-    {
-        Refusal::because(0)
-    }
-
     // A refusal that speaks of no touch.
     pub fn because(number: u8) -> Refusal
         ensures { λ r. ⌜ r ≡ because number ⌝ }
@@ -105,6 +99,13 @@ pub enum Checked {
 enum Stray {
     Nowhere,
     At(TouchNo),
+}
+
+// A face of a table as touch numbers: a table of plain numbers can be lent, one of structs is not covered by the prover.
+pub fn corners(f: [u16; 3]) -> [TouchNo; 3]
+    ensures { λ r. ⌜ plain r ≡ f ⌝ }
+{
+    [TouchNo(f[0]), TouchNo(f[1]), TouchNo(f[2])]
 }
 
 fn in_range(x: i64) -> bool

@@ -2,7 +2,7 @@ use borrow.Author.Needs.{needs}
 use mathlib.Core.Path.{_∙_, ap}
 use Rattle.hull.specs.declared.build.Built.{Built}
 use Rattle.hull.specs.Build.{hullOf, tableAfter}
-use Rattle.chienlohup.specs.Numbers.{builtNumbers}
+use Rattle.numbers.specs.Numbers.{builtNumbers}
 use Rattle.chienlohup.proofs.chienlohup_build.Statement.{statement}
 use Rattle.chienlohup.proofs.chienlohup_build.Tie as tie
 

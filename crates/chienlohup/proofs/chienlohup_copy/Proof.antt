@@ -6,7 +6,7 @@ use Rattle.records.specs.declared.Numbers.{Numbers}
 use Rattle.records.specs.declared.WriteAnswer.{WriteAnswer}
 use Rattle.records.specs.Record.{plainVersion}
 use Rattle.records.specs.Answers.{checkedRecord, bufferAfter, writeNumbers}
-use Rattle.chienlohup.specs.Numbers.{recordNumbers}
+use Rattle.numbers.specs.Numbers.{recordNumbers}
 use Rattle.chienlohup.proofs.CountLaws.{write-few, records-few}
 use Rattle.chienlohup.proofs.chienlohup_copy.Statement.{statement}
 use Rattle.chienlohup.proofs.chienlohup_copy.Tie as tie

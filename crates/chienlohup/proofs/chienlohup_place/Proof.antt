@@ -2,7 +2,7 @@ use borrow.Author.Needs.{needs}
 use mathlib.Core.Path.{_∙_, ap}
 use mir.Facts.{toZ-ofZ}
 use Rattle.hull.specs.Place.{placed}
-use Rattle.chienlohup.specs.Numbers.{placedNumbers, placeAt}
+use Rattle.numbers.specs.Numbers.{placedNumbers, placeAt}
 use Rattle.chienlohup.proofs.chienlohup_place.Statement.{statement}
 use Rattle.chienlohup.proofs.chienlohup_place.Tie as tie
 

@@ -2,7 +2,7 @@ use borrow.Author.Needs.{needs, sfits-of}
 use mathlib.Core.Path.{_∙_, ap}
 use mir.Facts.{toZ-ofZ}
 use Rattle.plumb.specs.Plumb.{plumbed}
-use Rattle.chienlohup.specs.Numbers.{plumbedNumbers, plumbedHeights}
+use Rattle.numbers.specs.Numbers.{plumbedNumbers, plumbedHeights}
 use Rattle.chienlohup.proofs.chienlohup_plumb.Statement.{statement}
 use Rattle.chienlohup.proofs.chienlohup_plumb.Tie as tie
 

@@ -6,7 +6,7 @@ use Rattle.records.specs.declared.Numbers.{Numbers}
 use Rattle.records.specs.declared.ReadAnswer.{ReadAnswer}
 use Rattle.records.specs.Record.{plainVersion, touchesIn}
 use Rattle.records.specs.Answers.{checkedRecord, listAfter, readNumbers}
-use Rattle.chienlohup.specs.Numbers.{recordNumbers}
+use Rattle.numbers.specs.Numbers.{recordNumbers}
 use Rattle.chienlohup.proofs.CountLaws.{read-few, records-few}
 use Rattle.chienlohup.proofs.chienlohup_read.Statement.{statement}
 use Rattle.chienlohup.proofs.chienlohup_read.Tie as tie

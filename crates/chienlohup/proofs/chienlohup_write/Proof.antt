@@ -7,7 +7,7 @@ use Rattle.records.specs.declared.Numbers.{Numbers}
 use Rattle.records.specs.declared.WriteAnswer.{WriteAnswer}
 use Rattle.records.specs.Record.{plainVersion, recordOf}
 use Rattle.records.specs.Answers.{bufferAfter, writeNumbers}
-use Rattle.chienlohup.specs.Numbers.{recordNumbers}
+use Rattle.numbers.specs.Numbers.{recordNumbers}
 use Rattle.chienlohup.proofs.CountLaws.{write-few, lists-few}
 use Rattle.chienlohup.proofs.chienlohup_write.Statement.{statement}
 use Rattle.chienlohup.proofs.chienlohup_write.Tie as tie

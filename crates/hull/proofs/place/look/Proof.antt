@@ -10,7 +10,7 @@ use mir.Syntax.{w32}
 use mir.Val.{toZ, ofZ}
 use mir.ValLaws.{toZ-ofZ}
 use Rattle.laws.proofs.Words.{eq-test}
-use Rattle.touches.specs.Touches.{touch}
+use Rattle.touches.specs.Touches.{touch, plain}
 use Rattle.volume.specs.Volume.{isZero}
 use Rattle.volume.proofs.SignLaws.{sign-below, sign-zero}
 use Rattle.rules.specs.Faces.{Face, faceVol}
@@ -35,7 +35,7 @@ front-is c =
     let a = c .before .before .before .before .before .before .args in
     let r = c .face-sign in
     ap (λ (z : ℤ). ltZ z (pos 0)) (toZ-ofZ w32 (r .result) (sfits-of (r .ok)) ∙ r .ensures)
-    ∙ sign-below (faceVol (touch (a .coords .now)) (c .before .face .result) (a .q)) ∙ ap (front (a .coords .now) (a .q)) (c .before .face .ensures)
+    ∙ sign-below (faceVol (touch (a .coords .now)) (plain (c .before .face .result)) (a .q)) ∙ ap (front (a .coords .now) (a .q)) (c .before .face .ensures)
 
 on-is : (c : tie.After-face-sign Inv-loop μ-loop)
     → let a = c .before .before .before .before .before .before .args in
@@ -44,7 +44,7 @@ on-is c =
     let a = c .before .before .before .before .before .before .args in
     let r = c .face-sign in
     eq-test w32 {a = r .result} {b = pos 0} (sfits-of (r .ok)) (search needs) ∙ ap isZero (r .ensures)
-    ∙ sign-zero (faceVol (touch (a .coords .now)) (c .before .face .result) (a .q)) ∙ ap (holding (a .coords .now) (a .q)) (c .before .face .ensures)
+    ∙ sign-zero (faceVol (touch (a .coords .now)) (plain (c .before .face .result)) (a .q)) ∙ ap (holding (a .coords .now) (a .q)) (c .before .face .ensures)
 
 room-requires : tie.Need-room-requires Inv-loop μ-loop
 room-requires c κs = search needs

@@ -1,7 +1,10 @@
 use borrow.Author.Needs.{needs}
-use mathlib.Core.Path.{_≡_, refl, _∙_}
+use mathlib.Core.Path.{_≡_, refl, sym, ap, subst, _∙_}
 use Prim.Native.Nat.{_≤_, _-_}
 use lib.ListN.{length, length-set}
+use Rattle.touches.specs.Touches.{touch}
+use Rattle.rules.specs.Demands.{FaceOf}
+use Rattle.points.specs.Whole.{planeOn}
 use Rattle.hull.specs.Whole.{Planed}
 use Rattle.hull.proofs.WholeLaws.{planed-more}
 use Rattle.hull.proofs.whole.put_planes.Statement.{statement}
@@ -16,20 +19,23 @@ abbrev μ-loop : tie.MeasureT-loop
 loop-holds : tie.Need-loop-holds Inv-loop μ-loop
 loop-holds c = (search needs, search needs, refl, c .pre .1)
 
-mul-plane-on : tie.Need-mul-plane-on Inv-loop μ-loop
-mul-plane-on c = search needs
+mul-corners : tie.Need-mul-corners Inv-loop μ-loop
+mul-corners c = search needs
 
-shared-slice-copy-out-plane-on : tie.Need-shared-slice-copy-out-plane-on Inv-loop μ-loop
-shared-slice-copy-out-plane-on c = search needs
+shared-slice-copy-out-corners : tie.Need-shared-slice-copy-out-corners Inv-loop μ-loop
+shared-slice-copy-out-corners c = search needs
+
+corners-requires : tie.Need-corners-requires Inv-loop μ-loop
+corners-requires c κs = search needs
 
 plane-on-requires : tie.Need-plane-on-requires Inv-loop μ-loop
 plane-on-requires c κs =
-    let l = c .before .before .loop in
-    let h = c .before .before .before .pre in
-    (h .0, h .5 (l .i) (l .inv .0) (search needs))
+    let l = c .before .before .before .loop in
+    let s = c .before .before .before .before in
+    (s .pre .0, subst (FaceOf (s .args .coords .now)) (sym (c .corners .ensures)) (s .pre .5 (l .i) (l .inv .0) (search needs)))
 
-mul-t12 : tie.Need-mul-t12 Inv-loop μ-loop
-mul-t12 c = search needs
+mul-t13 : tie.Need-mul-t13 Inv-loop μ-loop
+mul-t13 c = search needs
 
 slice-set-from-planes : tie.Need-slice-set-from-planes Inv-loop μ-loop
 slice-set-from-planes c = search needs
@@ -42,8 +48,10 @@ loop-less c = search needs
 
 loop-again : tie.Need-loop-again Inv-loop μ-loop
 loop-again c =
-    let l = c .before .before .before .loop in
-    (search needs, search needs, length-set (l .planes) (l .i) (c .plane-on .result) ∙ l .inv .2, planed-more (l .inv .3) (search needs) (c .plane-on .ensures))
+    let l = c .before .before .before .before .loop in
+    let cs = c .before .before .before .before .before .args .coords .now in
+    let e = c .plane-on .ensures ∙ ap (planeOn (touch cs)) (c .before .corners .ensures) in
+    (search needs, search needs, length-set (l .planes) (l .i) (c .plane-on .result) ∙ l .inv .2, planed-more (l .inv .3) (search needs) e)
 
 same-length : tie.Need-same-length Inv-loop μ-loop
 same-length c = search needs
@@ -58,10 +66,11 @@ put-planes-spec =
     Inv-loop
     μ-loop
     loop-holds
-    mul-plane-on
-    shared-slice-copy-out-plane-on
+    mul-corners
+    shared-slice-copy-out-corners
+    corners-requires
     plane-on-requires
-    mul-t12
+    mul-t13
     slice-set-from-planes
     add-i
     loop-less

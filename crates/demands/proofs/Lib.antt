@@ -1,0 +1,11 @@
+pub mod FirstLaws
+pub mod ReasonLaws
+pub mod ListLaws
+pub mod CallFirsts
+pub mod RecordFirsts
+pub mod BuiltLaws
+pub mod GrowLaws
+pub mod ExactLaws
+pub mod TripLaws
+pub mod PlumbLineLaws
+pub mod Theorem

@@ -1,0 +1,1 @@
+// The demands, said of what the calls give: definitions and theorems, no code.

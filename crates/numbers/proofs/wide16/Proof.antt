@@ -1,0 +1,14 @@
+use borrow.Author.Needs.{needs}
+use mir.Syntax.{w64}
+use mir.Facts.{toZ-pos}
+use Rattle.numbers.proofs.wide16.Statement.{statement}
+use Rattle.numbers.proofs.wide16.Tie as tie
+
+cast-result : tie.Need-cast-result
+cast-result c = search needs
+
+returns : tie.Need-returns
+returns c = toZ-pos w64 (search needs)
+
+pub wide16-spec : {M : Type 1} → statement M
+wide16-spec = tie.close (tie.spec cast-result returns)
