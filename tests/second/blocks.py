@@ -89,7 +89,10 @@ def listing():
 
 def volumes():
     # Equation 4.7 of the chapter.
-    assert second.V((0, 0, 10), (10, 10, 0), (0, 10, 10), (10, 10, 10)) == -1000
+    seen = (0, 0, 10), (10, 10, 0), (0, 10, 10), (10, 10, 10)
+    assert second.V(*seen) == -1000
+    for four in seen, T, T[::-1], ((30000, -30000, 7), (-3, 30000, -30000), (5, 11, 30000), (-30000, 2, -1)):
+        assert second.V_by_steps(*four)[-1] == (("vol", second.V(*four)),), four
     # 01's minus zero: normal (0, 0, -100), fourth number 0, q = (-5, -5, 0).
     answer = second.plane_of_face(flat_list(T), 1, 0, 2)
     assert list(map(str, answer)) == ["0", "0", "0.0", "0.0", "-100.0", "0.0"], answer

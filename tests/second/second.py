@@ -64,6 +64,22 @@ def V(a, b, c, d):
     )
 
 
+def V_by_steps(a, b, c, d):
+    # 02, A4: every number between, in the order and under the names of the chapter's Code 4.16
+    ax, ay, az = (a[i] - d[i] for i in range(3))
+    bx, by, bz = (b[i] - d[i] for i in range(3))
+    cx, cy, cz = (c[i] - d[i] for i in range(3))
+    x, y, z = by * cz - bz * cy, bz * cx - bx * cz, bx * cy - by * cx
+    return (
+        (("ax", ax), ("ay", ay), ("az", az)),
+        (("bx", bx), ("by", by), ("bz", bz)),
+        (("cx", cx), ("cy", cy), ("cz", cz)),
+        (("by*cz - bz*cy", x), ("bz*cx - bx*cz", y), ("bx*cy - by*cx", z)),
+        (("ax * (by*cz - bz*cy)", ax * x), ("ay * (bz*cx - bx*cz)", ay * y), ("az * (bx*cy - by*cx)", az * z)),
+        (("vol", ax * x + ay * y + az * z),),
+    )
+
+
 def V_of_face(touches, face, place):
     # 01, Volume and the four-corner rule
     a, b, c = face

@@ -1,3 +1,4 @@
+pub mod FourCornerLaws
 pub mod WholeLaws
 pub mod PartLaws
 pub mod StepLaws

@@ -21,7 +21,7 @@ module _ {p : Point} {s : Spot} (h : Near p) (e : InDoubles p s) where
   pub at-z : Exact reach (s .z) (p .z)
   at-z = e-of tt (e .z) (h .z)
 
-part : {a b c d : Float} {p q r s : ℤ} → Exact mostGap a p → Exact mostGap b q → Exact mostGap c r → Exact mostGap d s → Exact mostNormal (det2 a b c d) (p *ℤ s -ℤ q *ℤ r)
+pub part : {a b c d : Float} {p q r s : ℤ} → Exact mostGap a p → Exact mostGap b q → Exact mostGap c r → Exact mostGap d s → Exact mostNormal (det2 a b c d) (p *ℤ s -ℤ q *ℤ r)
 part a b c d = e-sub tt (e-mul tt a d) (e-mul tt b c)
 
 -- differences from a

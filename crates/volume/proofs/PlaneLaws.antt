@@ -25,7 +25,7 @@ pub plane-vol : (a b c q : Point) → Vol a b c q ≡ offset a b c -ℤ dot (nor
 unfolding Vol normal offset
 plane-vol a b c q = ring (env (a ∷ b ∷ c ∷ q ∷ [])) (W 0 1 2 3) (dotE n (pt 0) :- dotE n (pt 3)) tt
 
-near-on : {p : Point} → Near p → (i : Axis) → Within reach (on p i)
+pub near-on : {p : Point} → Near p → (i : Axis) → Within reach (on p i)
 near-on h X = h .x
 near-on h Y = h .y
 near-on h Z = h .z

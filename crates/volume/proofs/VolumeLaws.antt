@@ -18,6 +18,11 @@ pub vol-cross : (a b c d : Point) → Vol a b c d ≡ negℤ (dot (cross (minus 
 unfolding Vol
 vol-cross a b c d = ring (env (a ∷ b ∷ c ∷ d ∷ [])) (W 0 1 2 3) (neg (dotE (crossE (minusE (pt 1) (pt 0)) (minusE (pt 2) (pt 0))) (minusE (pt 3) (pt 0)))) tt
 
+-- V is the determinant of the differences a − d, b − d, c − d
+pub vol-fourth : (a b c d : Point) → Vol a b c d ≡ dot (minus a d) (cross (minus b d) (minus c d))
+unfolding Vol
+vol-fourth a b c d = ring (env (a ∷ b ∷ c ∷ d ∷ [])) (W 0 1 2 3) (dotE (minusE (pt 0) (pt 3)) (crossE (minusE (pt 1) (pt 3)) (minusE (pt 2) (pt 3)))) tt
+
 -- its size within range
 pub vol-within : {a b c d : Point} → Near a → Near b → Near c → Near d → Within mostVolume (Vol a b c d)
 vol-within {a} {b} {c} {d} ha hb hc hd = subst (Within mostVolume) (sym (vol-cross a b c d))
