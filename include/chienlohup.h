@@ -73,11 +73,16 @@ void chienlohup_build(const int32_t *touches, size_t touches_len,
 /* Says where the place (x, y, z) lies against a face table, be it a hull or not.
    Refusals in order: 1, 2, 3, 6, 7.
    out[2]: the kind, 0 refused, 1 outside, 2 on, 3 inside. These are no refusal numbers.
-   out[3]: outside, the number of the first face the place is in front of; on, the
-   number of the first face whose plane holds it; inside, 0. Nothing is lent. */
+   out[3]: outside, the number of the worst face, the one that the place is most in front
+   of: the one with the greatest out[4], of equals the first; on, the number of the first
+   face whose plane holds the place; inside, 0.
+   out[4]: outside, ((b - a) cross (c - a)) dot (q - a) of that face and the place q, which
+   is minus V and above zero: six times the volume between the place and the face. A
+   large face counts for more than a small one, and it is no length. Else 0.
+   Nothing is lent. */
 void chienlohup_place(const int32_t *touches, size_t touches_len,
                       const uint16_t *faces, size_t faces_len,
-                      int32_t x, int32_t y, int32_t z, int64_t out[4]);
+                      int32_t x, int32_t y, int32_t z, int64_t out[5]);
 
 /* The plane of the face with the touch numbers a, b, c. Refusals in order: 1, 2, 3, 6.
    plane[0] to plane[2]: the normal (b - a) cross (c - a). plane[3]: its dot product

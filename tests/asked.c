@@ -6,7 +6,7 @@
      B  i32 list touches, u16 list faces
         -> u8 number, u16 place, u16 face count, i64 volume, u16 faces
      P  i32 list touches, u16 list faces, i32 x, y, z
-        -> u8 number, u16 place, u8 kind, u16 face number
+        -> u8 number, u16 place, u8 kind, u16 face number, i64 minus V
      L  i32 list touches, u16 a, b, c
         -> u8 number, u16 place, 4 doubles
      Q  i32 list touches, u16 a, b, c, i32 x, y, z
@@ -34,7 +34,7 @@ long write(int file, const void *from, size_t count);
 void _exit(int status);
 #endif
 
-enum { MOST = 70000, GUARD = 16, PIECE = 65536, OUTS = 4, DOUBLES = 4 };
+enum { MOST = 70000, GUARD = 16, PIECE = 65536, OUTS = 5, DOUBLES = 4 };
 
 static uint8_t in_piece[PIECE], out_piece[PIECE];
 static size_t in_at, in_end, out_end;
@@ -227,10 +227,11 @@ static void ask_place(void)
     size_t touches_len = take_touches(), faces_len = take_faces();
     int32_t x = take_signed(), y = take_signed(), z = take_signed();
     chienlohup_place(touches, touches_len, faces, faces_len, x, y, z, out);
-    check_results(4, 0);
+    check_results(5, 0);
     put_number_and_place();
     put_out(2, 1);
     put_out(3, 2);
+    put((uint64_t)out[4], 8);
 }
 
 static void ask_plane(void)

@@ -28,9 +28,9 @@ def refused(touches, number, at=0, table=FILL):
     assert answer == (number, at, 0, 0, table), answer
 
 
-def placed(place, kind, face):
-    answer = second.place(flat_list(T), FOUR, *place)
-    assert answer == (0, 0, kind, face), answer
+def placed(place, kind, face, minus_v=0, touches=T, faces=FOUR):
+    answer = second.place(flat_list(touches), faces, *place)
+    assert answer == (0, 0, kind, face, minus_v), answer
 
 
 def blocks():
@@ -51,7 +51,7 @@ def blocks():
 
     placed((1, 1, 1), second.INSIDE, 0)
     placed((2, 3, 5), second.ON, 3)
-    placed((10, 10, 10), second.OUTSIDE, 3)
+    placed((10, 10, 10), second.OUTSIDE, 3, 2000)
 
     refused((*T[:3], (0, 0, 30001)), 3, 3)
     # With S below the others V is positive, so A and B are P and Q.
@@ -67,6 +67,23 @@ def blocks():
     refused(T, 5, table=FILL[: 3 * 3])
     refused(T, 5, table=FILL[: 3 * 3 + 2])
     assert second.build(flat_list(T), FILL[:12]) == (0, 0, 4, 1000, FOUR)
+
+
+def worst_faces():
+    # In front of one face alone; of three alike; of three, the two worst alike and not the first.
+    placed((5, 4, -1), second.OUTSIDE, 0, 100)
+    placed((-1, -1, -1), second.OUTSIDE, 0, 100)
+    placed((-2, -2, -1), second.OUTSIDE, 1, 200)
+    # Tables that are no hull: one face; a face twice; a face in line.
+    placed((10, 10, 10), second.OUTSIDE, 0, 2000, faces=FOUR[9:])
+    placed((10, 10, 10), second.OUTSIDE, 1, 2000, faces=FOUR[:3] + 2 * FOUR[9:])
+    line = (1, 1, 0)
+    placed((1, 1, 1), second.ON, 0, faces=line + FOUR)
+    placed((10, 10, 10), second.OUTSIDE, 4, 2000, faces=line + FOUR)
+    # Eight times 30,000 cubed.
+    far = 30_000
+    wide = (far, far, far), (far, -far, -far), (-far, far, -far), (-far, -far, far)
+    placed((far, far, -far), second.OUTSIDE, 0, 216_000_000_000_000, wide, (0, 1, 2, 0, 3, 1, 1, 3, 2, 2, 3, 0))
 
 
 def listing():
@@ -114,6 +131,7 @@ def plumb_lines():
 
 if __name__ == "__main__":
     blocks()
+    worst_faces()
     listing()
     volumes()
     plumb_lines()

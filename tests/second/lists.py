@@ -597,6 +597,13 @@ def fixed_place(rng):
     for face in itertools.product(range(4), repeat=3):
         yield "P", numbers, face + table, 1, 1, 1
         yield "P", numbers, table + face, 1, 1, 1
+    # Tables that are no hull: one face, faces twice, turned, in another order and any faces over touches that differ in size.
+    low = flat_list(((0, 0, 0), (0, 100, 0), (0, 0, 4), (100, 0, 0)))
+    others = [table[9:], table[:3] + 2 * table[9:], table[::-1], table[6:] + table[:6]]
+    others += [tuple(rng.randrange(4) for _ in range(3 * rng.randint(1, 6))) for _ in range(6)]
+    for other, place in itertools.product(others, itertools.product((-7, -1, 0, 1, 20), repeat=3)):
+        yield "P", numbers, other, *place
+        yield "P", low, other, *place
     # Flat touches and no touches are no ground here.
     yield "P", numbers[:9], (0, 1, 2), 0, 0, 0
     yield "P", (), (0, 0, 0), 0, 0, 0

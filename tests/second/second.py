@@ -214,15 +214,15 @@ def volume(touches, faces):
 
 
 def lies(touches, faces, place):
-    # 01, Where a place lies: what it is, and the face number
+    # 01, Where a place lies, and 02, A7: what it is, the face number and minus V
     volumes = [V_of_face(touches, face, place) for face in faces]
-    for number, each in enumerate(volumes):
-        if in_front(each):
-            return OUTSIDE, number
+    if any(map(in_front, volumes)):
+        least = min(volumes)
+        return OUTSIDE, volumes.index(least), -least
     for number, each in enumerate(volumes):
         if on_plane(each):
-            return ON, number
-    return INSIDE, 0
+            return ON, number, 0
+    return INSIDE, 0, 0
 
 
 # The plumb line
@@ -468,14 +468,14 @@ def build(numbers, table):
 
 
 def place(numbers, table, x, y, z):
-    # 01, Where a place lies
+    # 01, Where a place lies, and 02, A7
     touches = touches_of(numbers)
     grounds = grounds_of_touches(numbers, touches)
     grounds[6] = lambda: bad_table(touches, table)
     grounds[7] = lambda: place_out_of_range((x, y, z))
     number, at = refusal(ORDER["P"], grounds)
     if number:
-        return number, at, REFUSED, 0
+        return number, at, REFUSED, 0, 0
     return 0, 0, *lies(touches, faces_of(table), (x, y, z))
 
 
@@ -576,7 +576,7 @@ REQUESTS = {
 
 ANSWERS = {
     "B": "number B, place H, face count H, volume q, faces H*",
-    "P": "number B, place H, kind B, face H",
+    "P": "number B, place H, kind B, face H, minus V q",
     "L": "number B, place H, x d, y d, z d, offset d",
     "Q": "number B, place H, reading d",
     "R": "number B, place H, touch count H, touches i*",

@@ -14,12 +14,17 @@ const LOW: [i32; 12] = [0, 0, 0, 10, 0, 0, 0, 10, 0, 0, 0, -R];
 
 const FAR: [i32; 12] = [0, 0, 0, 10, 0, 0, 0, 10, 0, 0, 0, R + 1];
 
+// As wide as can be.
+const WIDE: [i32; 12] = [R, R, R, R, -R, -R, -R, R, -R, -R, -R, R];
+
 const FLAT: [i32; 12] = [R, 0, 0, 0, R, 0, 0, 0, R, 10000, 10000, 10000];
 
-// The four faces of T, and the same with a face in line and with one over a missing touch.
+// The four faces of T, and the same with a face in line and with one over a missing touch; one face of T and then another one twice.
 const FACES: [u16; 12] = [1, 0, 2, 1, 3, 0, 0, 3, 2, 2, 3, 1];
 
 const LINE: [u16; 12] = [1, 0, 2, 1, 1, 0, 0, 3, 2, 2, 3, 1];
+
+const TWICE: [u16; 9] = [1, 0, 2, 2, 3, 1, 2, 3, 1];
 
 const MISSING: [u16; 12] = [1, 0, 2, 1, 3, 0, 0, 3, 2, 2, 3, 4];
 
@@ -85,9 +90,10 @@ fn place(coords: &[i32], faces: &[u16], x: i64, y: i64, z: i64) {
             say(b"on");
             field(wide16(f.0));
         }
-        Placed::Outside(f) => {
+        Placed::Outside(f, d) => {
             say(b"outside");
             field(wide16(f.0));
+            signed(d);
         }
     }
     say(b"\n");
@@ -120,15 +126,31 @@ fn build_refusals() {
     build(&T[..0], &mut [7u16; 3]);
 }
 
-// Against T; against one face; against a table with a face in line, which holds every place.
+// Against T.
 fn places() {
     place(&T, &FACES, 1, 1, 1);
     place(&T, &FACES, 2, 3, 5);
     place(&T, &FACES, 10, 10, 10);
-    place(&T, &FACES, -1, -1, -1);
     place(&T, &FACES, 0, 0, 0);
+}
+
+// In front of one face alone; of three alike; of three, the two worst alike and not the first; of one, on the planes of two more.
+fn worst_faces() {
+    place(&T, &FACES, 5, 4, -1);
+    place(&T, &FACES, -1, -1, -1);
+    place(&T, &FACES, -2, -2, -1);
+    place(&T, &FACES, 20, 0, 0);
+    let mut faces = [0u16; 12];
+    hull::build::build(&WIDE, &mut faces);
+    place(&WIDE, &faces, 30000, 30000, -30000);
+}
+
+// Against tables that are no hull: one face; a face twice; a face in line, which holds every place that is in front of no other.
+fn no_hulls() {
     place(&T, &FACES[9..], 10, 10, 10);
+    place(&T, &TWICE, 10, 10, 10);
     place(&T, &LINE, 1, 1, 1);
+    place(&T, &LINE, 10, 10, 10);
 }
 
 // Refusals 1, 2, 3, 6, 7, each before the next.
@@ -152,5 +174,7 @@ fn main() {
     rooms();
     build_refusals();
     places();
+    worst_faces();
+    no_hulls();
     place_refusals();
 }

@@ -57,7 +57,7 @@ pub extern "C" fn chienlohup_place(
     x: i32,
     y: i32,
     z: i32,
-    out: &mut [i64; 4],
+    out: &mut [i64; 5],
 )
     ensures { λ r. ⌜ now (out .exit) ≡ placedNumbers (placed (now (touches .entry)) (now (faces .entry)) (placeAt x y z)) ⌝ }
 {

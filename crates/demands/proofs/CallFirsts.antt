@@ -62,7 +62,7 @@ place-never : (l : Lies) (r : Refusal) → (placedBy l ≡ PlaceRefused r) ↔ n
 place-never l r = (go l, (λ u. absurd u))
   where
     go : (l : Lies) → placedBy l ≡ PlaceRefused r → ⊥
-    go (outside f) e = let z : _≡_ {A = ℕ} 0 1 = cc in omega arith
+    go (outside f d) e = let z : _≡_ {A = ℕ} 0 1 = cc in omega arith
     go (on f) e = let z : _≡_ {A = ℕ} 0 1 = cc in omega arith
     go inside e = let z : _≡_ {A = ℕ} 0 1 = cc in omega arith
 

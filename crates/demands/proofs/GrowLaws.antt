@@ -3,7 +3,6 @@ use mathlib.Core.Path.{_≡_, refl, sym, ap, subst, _∙_}
 use mathlib.Core.Logic.{_↔_, _⊎_, inl, inr}
 use mathlib.Core.Bool.{Bool, true, false}
 use mathlib.Core.List.{List, _++_}
-use mathlib.Core.Option.{some}
 use Prim.Native.Nat.{ℕ, _+_, _%_, _<_}
 use native.Mathlib.Omega.{arith}
 use lib.IntN.{ℤ}
@@ -22,11 +21,11 @@ use Rattle.touches.proofs.SoundLaws.{near-place, touch-near}
 use Rattle.touches.proofs.JoinLaws.{join-count, join-second}
 use Rattle.rules.specs.Faces.{Face}
 use Rattle.rules.specs.Building.{volume}
-use Rattle.rules.specs.Placing.{Lies, outside, on, inside, lies}
+use Rattle.rules.specs.Placing.{outside, on, inside, lies}
 use Rattle.rules.specs.Demands.{Growth}
 use Rattle.rules.proofs.Theorems.{flat-exact, one-result, inside-stays, on-stays, lists-grow, lists-rise, lists-same}
 use Rattle.table.specs.Table.{lent, facesIn, usable}
-use Rattle.hull.specs.Build.{hullOf, built}
+use Rattle.hull.specs.Build.{built}
 use Rattle.hull.specs.Place.{placedBy, placed}
 use Rattle.hull.specs.declared.build.Built.the-variants.{Hull, Refused}
 use Rattle.hull.specs.declared.place.Placed.{Placed}
@@ -39,7 +38,7 @@ use Rattle.demands.proofs.BuiltLaws.{front-is, place-is, flat-to}
 -- ---- a place that was not refused is in range
 abbrev Answered : Placed → Type 0
 Answered (PlaceRefused r) = ⊥
-Answered (Outside f) = Unit {0}
+Answered (Outside f d) = Unit {0}
 Answered (On f) = Unit {0}
 Answered Inside = Unit {0}
 
@@ -98,7 +97,7 @@ module _ (L M : List ℤ) {old new : List ℕ} {n m : ℕ} {v w : ℤ} {h g : Li
 
   -- an added touch is outside by the answer exactly if it is by the rules
   abbrev RuleOutside : Type 0
-  RuleOutside = (t : ℕ) × (t < touchCount M) × (k : ℕ) × (lies (touch L) h (touch M t) ≡ outside k)
+  RuleOutside = (t : ℕ) × (t < touchCount M) × (k : ℕ) × (d : ℤ) × (lies (touch L) h (touch M t) ≡ outside k d)
 
   added-near : (t : ℕ) → t < touchCount M → placeInRange (touch M t) ≡ true
   added-near t l =
@@ -106,10 +105,10 @@ module _ (L M : List ℤ) {old new : List ℕ} {n m : ℕ} {v w : ℤ} {h g : Li
       subst (λ (q : Point). placeInRange q ≡ true) (join-second L M whole-L whole-M t) (near-place (touch (L ++ M) (touchCount L + t)) (touch-near (j .sound) (touchCount L + t) k))
 
   to-call : RuleOutside → SomeOutside L old M
-  to-call u = (u .0, u .1, faceNo (u .2), place-is i (touch M (u .0)) (added-near (u .0) (u .1)) ∙ ap placedBy (u .3))
+  to-call u = (u .0, u .1, faceNo (u .2), u .3, place-is i (touch M (u .0)) (added-near (u .0) (u .1)) ∙ ap placedBy (u .4))
 
   from-call : SomeOutside L old M → RuleOutside
-  from-call u = (u .0, u .1, u .2 .0, by-outside (lies (touch L) h (touch M (u .0))) (sym (place-is i (touch M (u .0)) (added-near (u .0) (u .1))) ∙ u .3))
+  from-call u = (u .0, u .1, u .2 .0, u .3, by-outside (lies (touch L) h (touch M (u .0))) (sym (place-is i (touch M (u .0)) (added-near (u .0) (u .1))) ∙ u .4))
 
   rises-by : {a b : ℤ} → a ≡ v → b ≡ w → (a <ℤ b) ↔ RuleOutside → (v <ℤ w) ↔ SomeOutside L old M
   rises-by x y = rw (x, y) (λ c. ((λ l. to-call (c .0 l)), (λ u. c .1 (from-call u))))

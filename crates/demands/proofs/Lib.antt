@@ -7,5 +7,6 @@ pub mod BuiltLaws
 pub mod GrowLaws
 pub mod ExactLaws
 pub mod TripLaws
+pub mod PlacedLaws
 pub mod PlumbLineLaws
 pub mod Theorem

@@ -19,6 +19,7 @@ use Rattle.demands.proofs.BuiltLaws.{is-hull, flat-is}
 use Rattle.demands.proofs.GrowLaws.{grows, never-flat}
 use Rattle.demands.proofs.ExactLaws.{volume-exact, planes-exact, readings-exact}
 use Rattle.demands.proofs.TripLaws.{trip-list, trip-record}
+use Rattle.demands.proofs.PlacedLaws.{placings}
 use Rattle.demands.proofs.PlumbLineLaws.{plumb-line}
 
 pub demands : Demands
@@ -47,5 +48,6 @@ demands = record {
   planes = planes-exact;
   readings = readings-exact;
   plus-zero = plus-zero-is;
+  placings = placings;
   plumb-line = λ cs old n v x y e hx hy. plumb-line (inverted cs old e .1) x y hx hy;
 }

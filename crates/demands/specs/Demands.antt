@@ -4,7 +4,7 @@ use mathlib.Core.Path.{_≡_}
 use mathlib.Core.Logic.{_↔_, _⊎_, _≢_}
 use mathlib.Core.Bool.{false}
 use mathlib.Core.List.{List, _++_}
-use mathlib.Core.Option.{some}
+use mathlib.Core.Option.{Option, none, some}
 use Prim.Native.Nat.{ℕ, _+_, _-_, _*_, _%_, _<_, _≤_}
 use lib.IntN.{ℤ, pos, negℤ}
 use lib.Signed.{_≤ℤ_, _<ℤ_}
@@ -24,7 +24,7 @@ use Rattle.touches.specs.Check.{checked, checkedRefusal, checkedCount}
 use Rattle.volume.specs.Volume.{Vol, normal, offset, inLine}
 use Rattle.rules.specs.Faces.{Face, corner}
 use Rattle.rules.specs.Building.{volume}
-use Rattle.rules.specs.Demands.{Flat, Closed, FaceOf, OnOrInside}
+use Rattle.rules.specs.Demands.{Flat, Closed, FaceOf, OnOrInside, OnPlane, Inside as BehindAll, Outside as InFrontOfSome, Worst, Case, outsideCase, onCase, insideCase, caseBefore}
 use Rattle.rules.specs.Plumb.{Fraction}
 use Rattle.rules.specs.Heights.{over, whole, AtMost, Below, Equal, NoneRefuses, Spans}
 use Rattle.table.specs.Table.{stride, room, firstFaces, facesIn}
@@ -200,7 +200,7 @@ place cs old q = placed cs (front cs old) q
 
 -- some touch of M is outside the hull that building wrote for L
 abbrev pub SomeOutside : List ℤ → List ℕ → List ℤ → Type 0
-SomeOutside L old M = (t : ℕ) × (t < touchCount M) × (f : FaceNo) × (place L old (touch M t) ≡ Outside f)
+SomeOutside L old M = (t : ℕ) × (t < touchCount M) × (f : FaceNo) × (d : ℤ) × (place L old (touch M t) ≡ Outside f d)
 
 -- L was accepted, with n faces and the volume v, and so was L ++ M, with m faces and the volume w
 pub record Grows (L M : List ℤ) (old new : List ℕ) (n m : ℕ) (v w : ℤ) : Type 0 where
@@ -220,6 +220,24 @@ pub record ExactPlane (a b c : Point) (p : Plane) : Type 0 where
   pub y : Exactly (p .y) (normal a b c .y)
   pub z : Exactly (p .z) (normal a b c .z)
   pub offset : Exactly (p .offset) (offset a b c)
+
+-- ==== 02 A7: placing answered a, no refusal, against any table, hull or not
+-- 01's case of an answer
+abbrev pub caseAnswered : Placed → Option Case
+caseAnswered (Outside f d) = some outsideCase
+caseAnswered (On f) = some onCase
+caseAnswered Inside = some insideCase
+caseAnswered (PlaceRefused r) = none
+
+pub record IsPlaced (cs : List ℤ) (t : List ℕ) (q : Point) (a : Placed) : Type 0 where
+  -- outside exactly if some face has V < 0; on exactly if none has and some has V = 0; inside exactly if every face has V > 0
+  pub outside : ((f : FaceNo) × (d : ℤ) × (a ≡ Outside f d)) ↔ InFrontOfSome (touch cs) (facesIn t) q
+  pub on : ((f : FaceNo) × (a ≡ On f)) ↔ (OnOrInside (touch cs) (facesIn t) q × OnPlane (touch cs) (facesIn t) q)
+  pub inside : (a ≡ Inside) ↔ BehindAll (touch cs) (facesIn t) q
+  -- so the places are those of 01's three cases
+  pub as-before : caseAnswered a ≡ some (caseBefore (touch cs) (facesIn t) q)
+  -- outside names the face with the least V, the first of equals, and gives minus that V
+  pub worst : (f : FaceNo) (d : ℤ) → (a ≡ Outside f d) ↔ (Worst (touch cs) (facesIn t) q (f .0) (negℤ d) × (pos 0 <ℤ d))
 
 -- ==== 02 A3: the plumb line at x and y is answered with a, over the hull h that building wrote for cs
 -- both numbers of a height are held exactly as doubles
@@ -280,5 +298,7 @@ pub record Demands : Type 0 where
   pub planes : (cs : List ℤ) (a b c : ℕ) (p : Plane) → planed cs a b c ≡ Of p → ExactPlane (touch cs a) (touch cs b) (touch cs c) p
   pub readings : (cs : List ℤ) (a b c : ℕ) (q : Point) (x : Float) → planeReading cs a b c q ≡ Reads x → Exactly x (negℤ (Vol (touch cs a) (touch cs b) (touch cs c) q))
   pub plus-zero : plusZero ≡ double (pos 0)
+  -- 02 A7: what placing says, where it does not refuse
+  pub placings : (cs : List ℤ) (t : List ℕ) (q : Point) → ((r : Refusal) → placed cs t q ≡ PlaceRefused r → ⊥) → IsPlaced cs t q (placed cs t q)
   -- 02 A3: what a plumb line says, of a list that building accepts, at x and y in range
   pub plumb-line : (cs : List ℤ) (old : List ℕ) (n : ℕ) (v x y : ℤ) → built cs old ≡ Hull n v → InRange x → InRange y → PlumbLine cs old (triangles cs old) x y (plumbed cs x y)

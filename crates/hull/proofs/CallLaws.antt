@@ -53,16 +53,16 @@ module _ {cs : List ℤ} {old : List ℕ} {n : ℕ} {v : ℤ} {h : List Face} (i
 
 -- ---- from the call's answer back to the rules'
 pub by-inside : (l : Lies) → placedBy l ≡ Inside → l ≡ inside
-by-inside (outside f) e = let z : _≡_ {A = ℕ} 0 1 = cc in absurd (omega arith)
+by-inside (outside f d) e = let z : _≡_ {A = ℕ} 0 1 = cc in absurd (omega arith)
 by-inside (on f) e = let z : _≡_ {A = ℕ} 0 1 = cc in absurd (omega arith)
 by-inside inside e = refl
 
 pub by-on : (l : Lies) {f : FaceNo} → placedBy l ≡ On f → l ≡ on (f .0)
-by-on (outside g) {f} e = let z : _≡_ {A = ℕ} 0 1 = cc in absurd (omega arith)
+by-on (outside g d) {f} e = let z : _≡_ {A = ℕ} 0 1 = cc in absurd (omega arith)
 by-on (on g) {f} e = let t : faceNo g ≡ f = cc in ap (λ (x : FaceNo). on (x .0)) t
 by-on inside {f} e = let z : _≡_ {A = ℕ} 0 1 = cc in absurd (omega arith)
 
-pub by-outside : (l : Lies) {f : FaceNo} → placedBy l ≡ Outside f → l ≡ outside (f .0)
-by-outside (outside g) {f} e = let t : faceNo g ≡ f = cc in ap (λ (x : FaceNo). outside (x .0)) t
-by-outside (on g) {f} e = let z : _≡_ {A = ℕ} 0 1 = cc in absurd (omega arith)
-by-outside inside {f} e = let z : _≡_ {A = ℕ} 0 1 = cc in absurd (omega arith)
+pub by-outside : (l : Lies) {f : FaceNo} {d : ℤ} → placedBy l ≡ Outside f d → l ≡ outside (f .0) d
+by-outside (outside g c) {f} {d} e = let t : faceNo g ≡ f = cc in let s : c ≡ d = cc in λ i. outside (t i .0) (s i)
+by-outside (on g) {f} {d} e = let z : _≡_ {A = ℕ} 0 1 = cc in absurd (omega arith)
+by-outside inside {f} {d} e = let z : _≡_ {A = ℕ} 0 1 = cc in absurd (omega arith)

@@ -1,15 +1,21 @@
--- Looking at a table's faces one after the other: the first of a kind, and what is settled.
-use mathlib.Core.Path.{_≡_, refl, sym, ap, _∙_}
+-- Looking at a table's faces one after the other: the worst, the first of a kind, and what is settled.
+use mathlib.Core.Path.{_≡_, refl, sym, ap, ap₂, _∙_}
+use mathlib.Core.Logic.{_⊎_, inl, inr, _≢_}
 use mathlib.Core.Bool.{Bool, true, false}
 use mathlib.Core.List.{List, []}
 use mathlib.Core.Option.{Option, none, some}
 use Prim.Native.Nat.{ℕ, _+_, _<_, _≤_}
 use native.Mathlib.Omega.{arith}
-use lib.IntN.{ℤ, pos}
-use lib.Signed.{ltZ}
-use lib.ListN.{drop}
+use lib.IntN.{ℤ, pos, negℤ, negℤ-negℤ}
+use lib.Signed.{_≤ℤ_, _<ℤ_, ltZ, <ℤ-irrefl}
+use lib.ListN.{drop, getD}
+use Rattle.laws.specs.Numbers.{Within}
 use Rattle.laws.specs.Lists.{firstFrom}
+use Rattle.laws.proofs.Tests.{same-or}
+use Rattle.laws.proofs.Order.{≤-refl, ≤-trans, <-≤-trans, <→≤, ≡→≤, neg-pos, lt-true, lt-false}
+use Rattle.laws.proofs.Members.{in-getD}
 use Rattle.laws.proofs.Turns.{first-turn, first-none-left}
+use Rattle.touches.specs.declared.FaceNo.{FaceNo}
 use Rattle.touches.specs.declared.Point.{Point}
 use Rattle.touches.specs.declared.Refusal.{Refusal}
 use Rattle.touches.specs.declared.TouchList.{TouchList}
@@ -19,17 +25,21 @@ use Rattle.touches.specs.Limits.{placeInRange}
 use Rattle.touches.specs.Touches.{touch, touchCount, faceNo}
 use Rattle.touches.specs.Refusals.{noSuchFace, placeOutOfRange, because}
 use Rattle.touches.specs.Check.{pick, checked, ifAccepted}
-use Rattle.volume.specs.Volume.{isZero}
+use Rattle.volume.specs.Volume.{mostVolume, isZero}
 use Rattle.rules.specs.Faces.{Face, faceVol}
-use Rattle.rules.specs.Placing.{byFront, firstFront, firstHolding, lies}
+use Rattle.rules.specs.Placing.{outside, firstHolding, notOutside, lies}
+use Rattle.rules.specs.Demands.{OnOrInside, Worst as IsWorst}
+use Rattle.rules.proofs.PlaceLaws.{lies-worst, lies-behind}
 use Rattle.table.specs.Table.{room, faceAt, facesIn, usable}
 use Rattle.table.proofs.TableLaws.{length-faces, face-at}
-use Rattle.hull.specs.Inner.{earlier, settled}
+use Rattle.points.proofs.NumberLaws.{rd, passed}
+use Rattle.hull.specs.Inner.{worse, earlier, settledBehind, settled}
 use Rattle.hull.specs.Place.{placedBy, placed}
+use Rattle.hull.specs.declared.place.Worst.{Worst}
 use Rattle.hull.specs.declared.place.First.{First}
 use Rattle.hull.specs.declared.place.First.the-variants.{Nowhere, At}
 use Rattle.hull.specs.declared.place.Placed.{Placed}
-use Rattle.hull.specs.declared.place.Placed.the-variants.{Refused}
+use Rattle.hull.specs.declared.place.Placed.the-variants.{Outside, Refused}
 
 -- ---- the first face of a kind
 abbrev orElse : First → Option ℕ → Option ℕ
@@ -62,25 +72,101 @@ module _ {t : List ℕ} {q : Face → Bool} {i : ℕ} {first : First} (g : Looke
   pub looked-all : room t ≤ i → firstFrom q 0 (facesIn t) ≡ orElse first none
   looked-all h = g .so-far ∙ ap (orElse first) (first-none-left q (facesIn t) [] i (omega (arith, length-faces t)))
 
--- ---- both kinds
+-- ---- the worst face
+-- of the first i faces of the table t, w is the worst by g, if any is below 0
+pub record Worsened (t : List ℕ) (g : Face → ℤ) (i : ℕ) (w : Worst) : Type 0 where
+  pub small : Within mostVolume (w .v)
+  pub below : w .v ≤ℤ pos 0
+  pub least : (j : ℕ) → j < i → w .v ≤ℤ g (faceAt t j)
+  pub within : w .v <ℤ pos 0 → w .face .0 < room t
+  pub is : w .v <ℤ pos 0 → g (faceAt t (w .face .0)) ≡ w .v
+  pub first : w .v <ℤ pos 0 → (j : ℕ) → j < w .face .0 → w .v <ℤ g (faceAt t j)
+
+pub worst-none : (t : List ℕ) (g : Face → ℤ) → Worsened t g 0 (record { face = faceNo 0; v = pos 0 })
+worst-none t g = record {
+  small = record { within = omega arith };
+  below = ≤-refl (pos 0);
+  least = λ j l. absurd (omega arith);
+  within = λ l. absurd (<ℤ-irrefl l);
+  is = λ l. absurd (<ℤ-irrefl l);
+  first = λ l. absurd (<ℤ-irrefl l);
+}
+
+-- the next face was looked at, with V at v
+module _ {t : List ℕ} {g : Face → ℤ} {i : ℕ} {w : Worst} (k : Worsened t g i w) (r : i < room t) {v : ℤ} (e : v ≡ g (faceAt t i)) where
+  yields : Within mostVolume v → v <ℤ w .v → Worsened t g (i + 1) (record { face = faceNo i; v = v })
+  yields h l = record {
+    small = h;
+    below = <→≤ (<-≤-trans l (k .below));
+    least = λ j b. least j b (same-or j i);
+    within = λ _. r;
+    is = λ _. sym e;
+    first = λ _ j b. <-≤-trans l (k .least j b);
+  }
+    where
+      least : (j : ℕ) → j < i + 1 → (j ≡ i) ⊎ (j ≢ i) → v ≤ℤ g (faceAt t j)
+      least j b (inl s) = ≡→≤ (rw s e)
+      least j b (inr d) = <→≤ (<-≤-trans l (k .least j (omega arith)))
+
+  stays : w .v ≤ℤ v → Worsened t g (i + 1) w
+  stays l = record { small = k .small; below = k .below; least = λ j b. least j b (same-or j i); within = k .within; is = k .is; first = k .first }
+    where
+      least : (j : ℕ) → j < i + 1 → (j ≡ i) ⊎ (j ≢ i) → w .v ≤ℤ g (faceAt t j)
+      least j b (inl s) = rw (s, sym e) l
+      least j b (inr d) = k .least j (omega arith)
+
+  pub worst-more : Within mostVolume v → Worsened t g (i + 1) (worse w (faceNo i) v)
+  worst-more h = go (ltZ v (w .v)) refl
+    where
+      go : (b : Bool) → ltZ v (w .v) ≡ b → Worsened t g (i + 1) (pick b (record { face = faceNo i; v = v }) w)
+      go true l = yields h (lt-true l)
+      go false l = stays (lt-false l)
+
+-- ---- the code's tests
+pub worse-is : (w : Worst) (f : FaceNo) {v : ℤ} → Within mostVolume (w .v) × Within mostVolume v → {b : Bool} → ltZ (rd v) (rd (w .v)) ≡ b → pick b (record { face = f; v = v }) w ≡ worse w f v
+worse-is w f {v} h t = sym (ap (λ (b : Bool). pick b (record { face = f; v = v }) w) (ap₂ ltZ (sym (passed tt (h .1))) (sym (passed tt (h .0))) ∙ t))
+
+pub settled-by : (w : Worst) {o x : First} → Within mostVolume (w .v) → {b : Bool} → ltZ (rd (w .v)) (pos 0) ≡ b → o ≡ x → pick b (Outside (w .face) (negℤ (w .v))) (settledBehind x) ≡ settled w o
+settled-by w h t e = sym (ap₂ (λ (b : Bool) (o : First). pick b (Outside (w .face) (negℤ (w .v))) (settledBehind o)) (ap (λ (z : ℤ). ltZ z (pos 0)) (sym (passed tt h)) ∙ t) e)
+
+-- ---- all faces looked at
 module _ (cs : List ℤ) (q : Point) where
-  abbrev pub front : Face → Bool
-  front f = ltZ (faceVol (touch cs) f q) (pos 0)
+  abbrev pub against : Face → ℤ
+  against f = faceVol (touch cs) f q
 
   abbrev pub holding : Face → Bool
   holding f = isZero (faceVol (touch cs) f q)
 
-  pub settled-is : (t : List ℕ) {i : ℕ} {a b : First} → Looked t front i a → Looked t holding i b → room t ≤ i → settled a b ≡ placedBy (lies (touch cs) (facesIn t) q)
-  unfolding lies firstFront firstHolding
-  settled-is t {i} {a} {b} g k h = go a b ∙ sym (ap placedBy (ap₂′ (looked-all g h) (looked-all k h)))
-    where
-      ap₂′ : {o p r s : Option ℕ} → o ≡ p → r ≡ s → byFront o r ≡ byFront p s
-      ap₂′ e f = λ j. byFront (e j) (f j)
+  module _ {t : List ℕ} {i : ℕ} (h : room t ≤ i) {w : Worst} (k : Worsened t against i w) where
+    -- face number j of the table is that of its list
+    face-is : (j : ℕ) → j < room t → against (getD (facesIn t) j []) ≡ against (faceAt t j)
+    face-is j l = ap against (face-at t j l)
 
-      go : (a b : First) → settled a b ≡ placedBy (byFront (orElse a none) (orElse b none))
-      go (At f) b = refl
-      go Nowhere (At f) = refl
-      go Nowhere Nowhere = refl
+    in-front : w .v <ℤ pos 0 → lies (touch cs) (facesIn t) q ≡ outside (w .face .0) (negℤ (w .v))
+    in-front n = lies-worst (touch cs) (facesIn t) q (w .face .0) (negℤ (w .v)) .1 (rw (negℤ-negℤ (w .v)) worst, neg-pos n)
+      where
+        worst : IsWorst (touch cs) (facesIn t) q (w .face .0) (w .v)
+        worst = record {
+          within = omega (arith, length-faces t, k .within n);
+          is = face-is (w .face .0) (k .within n) ∙ k .is n;
+          least = λ j l. let b : j < room t = omega (arith, length-faces t) in rw (face-is j b) (k .least j (omega arith));
+          first = λ j l. let b : j < room t = omega (arith, k .within n) in rw (face-is j b) (k .first n j l);
+        }
+
+    behind : pos 0 ≤ℤ w .v → OnOrInside (touch cs) (facesIn t) q
+    behind n f m = let u = in-getD (facesIn t) [] m in let b : u .0 < room t = omega (arith, length-faces t, u .1) in rw (sym (u .2), face-is (u .0) b) (≤-trans n (k .least (u .0) (omega arith)))
+
+  pub settled-is : (t : List ℕ) {i : ℕ} {w : Worst} {o : First} → Worsened t against i w → Looked t holding i o → room t ≤ i → settled w o ≡ placedBy (lies (touch cs) (facesIn t) q)
+  unfolding firstHolding
+  settled-is t {i} {w} {o} k l h = go (ltZ (w .v) (pos 0)) refl
+    where
+      on : (o : First) → settledBehind o ≡ placedBy (notOutside (orElse o none))
+      on (At f) = refl
+      on Nowhere = refl
+
+      go : (b : Bool) → ltZ (w .v) (pos 0) ≡ b → pick b (Outside (w .face) (negℤ (w .v))) (settledBehind o) ≡ placedBy (lies (touch cs) (facesIn t) q)
+      go true e = ap placedBy (sym (in-front h k (lt-true e)))
+      go false e = on o ∙ ap (λ (x : Option ℕ). placedBy (notOutside x)) (sym (looked-all l h)) ∙ sym (ap placedBy (lies-behind (touch cs) (facesIn t) q (behind h k (lt-false e))))
 
 -- ---- the answer by what the three tests gave
 placed-is : (cs : List ℤ) (t : List ℕ) (q : Point) {k : Checked} {b d : Bool} → checked cs ≡ k → usable (touchCount cs) t ≡ b → placeInRange q ≡ d

@@ -4,7 +4,7 @@ use mathlib.Core.Bool.{Bool}
 use mathlib.Core.List.{List}
 use mathlib.Core.Option.{Option, some}
 use Prim.Native.Nat.{ℕ, _<_, _≤_}
-use lib.IntN.{ℤ, pos}
+use lib.IntN.{ℤ, pos, negℤ}
 use lib.Signed.{ltZ}
 use lib.ListN.{length, take}
 use Rattle.laws.specs.Lists.{In, Laid}
@@ -24,6 +24,7 @@ use Rattle.hull.specs.Build.{hullOf, builtFrom, tableAfter}
 use Rattle.hull.specs.declared.build.Built.{Built}
 use Rattle.hull.specs.declared.rooms.Tried.{Tried}
 use Rattle.hull.specs.declared.rooms.Tried.the-variants.{Done, Full}
+use Rattle.hull.specs.declared.place.Worst.{Worst}
 use Rattle.hull.specs.declared.place.First.{First}
 use Rattle.hull.specs.declared.place.First.the-variants.{Nowhere, At}
 use Rattle.hull.specs.declared.place.Placed.{Placed}
@@ -78,13 +79,19 @@ abbrev pub Tries : List ℤ → List ℕ → Tried → List ℕ → Type 0
 Tries cs old (Done r) after = Builds cs (hullOf cs) old r after
 Tries cs old Full after = after ≡ old
 
+-- the worst face once f is looked at, with its V
+abbrev pub worse : Worst → FaceNo → ℤ → Worst
+worse w f v = pick (ltZ v (w .v)) (record { face = f; v = v }) w
+
 -- the first face of a kind once f is looked at, b saying whether it is one
 abbrev pub earlier : First → FaceNo → Bool → First
 earlier Nowhere f b = pick b (At f) Nowhere
 earlier (At g) f b = At g
 
 -- a face in front comes before one whose plane holds the place
-abbrev pub settled : First → First → Placed
-settled (At f) o = Outside f
-settled Nowhere (At g) = On g
-settled Nowhere Nowhere = Inside
+abbrev pub settledBehind : First → Placed
+settledBehind (At g) = On g
+settledBehind Nowhere = Inside
+
+abbrev pub settled : Worst → First → Placed
+settled w o = pick (ltZ (w .v) (pos 0)) (Outside (w .face) (negℤ (w .v))) (settledBehind o)

@@ -1,7 +1,7 @@
--- 01 'Where a place lies': what the call gives.
+-- 01 'Where a place lies' and 02 A7: what the call gives.
 use mathlib.Core.List.{List}
 use Prim.Native.Nat.{ℕ}
-use lib.IntN.{ℤ}
+use lib.IntN.{ℤ, pos}
 use Rattle.touches.specs.declared.FaceNo.{FaceNo}
 use Rattle.touches.specs.declared.Point.{Point}
 use Rattle.touches.specs.declared.Refusal.{Refusal}
@@ -15,7 +15,7 @@ use Rattle.hull.specs.declared.place.Placed.{Placed}
 use Rattle.hull.specs.declared.place.Placed.the-variants.{Outside, On, Inside, Refused}
 
 abbrev pub placedBy : Lies → Placed
-placedBy (outside f) = Outside (faceNo f)
+placedBy (outside f d) = Outside (faceNo f) d
 placedBy (on f) = On (faceNo f)
 placedBy inside = Inside
 
@@ -29,13 +29,20 @@ placed cs t q =
 
 -- the paper's number and place of each answer, 0 where the call succeeds, and the face that it names, 0 where it names none
 abbrev pub placedRefusal : Placed → Refusal
-placedRefusal (Outside f) = noRefusal
+placedRefusal (Outside f d) = noRefusal
 placedRefusal (On f) = noRefusal
 placedRefusal Inside = noRefusal
 placedRefusal (Refused r) = r
 
 abbrev pub placedFace : Placed → FaceNo
-placedFace (Outside f) = f
+placedFace (Outside f d) = f
 placedFace (On f) = f
 placedFace Inside = faceNo 0
 placedFace (Refused r) = faceNo 0
+
+-- minus V of the face that it names, 0 unless outside
+abbrev pub placedMinusV : Placed → ℤ
+placedMinusV (Outside f d) = d
+placedMinusV (On f) = pos 0
+placedMinusV Inside = pos 0
+placedMinusV (Refused r) = pos 0

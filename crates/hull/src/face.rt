@@ -1,17 +1,15 @@
-// V and the sign test of a face, given by its touch numbers, and a point.
-use crate::four_corner::sign;
+// V of a face, given by its touch numbers, and a point.
 use crate::four_corner::volume;
 use points::touch::touch;
 use touches::Point;
 use touches::TouchNo;
-ghost use mathlib.Core.Path.{_≡_};
 ghost use Rattle.touches.specs.Touches.{touch, plain, Near, Sound};
-ghost use Rattle.volume.specs.Volume.{signOf, mostVolume};
+ghost use Rattle.volume.specs.Volume.{mostVolume};
 ghost use Rattle.rules.specs.Faces.{faceVol};
 ghost use Rattle.rules.specs.Demands.{FaceOf};
 ghost use Rattle.points.specs.Sizes.{Number};
 
-fn face_volume(coords: &[i32], f: [TouchNo; 3], q: Point) -> i64
+pub(crate) fn face_volume(coords: &[i32], f: [TouchNo; 3], q: Point) -> i64
     requires { ⌜ Sound (now coords) × FaceOf (now coords) (plain f) × Near q ⌝ }
     ensures { λ r. ⌜ Number mostVolume (faceVol (touch (now (coords .entry))) (plain f) q) r ⌝ }
 {
@@ -19,11 +17,4 @@ fn face_volume(coords: &[i32], f: [TouchNo; 3], q: Point) -> i64
     let b = touch(coords, f[1]);
     let c = touch(coords, f[2]);
     volume(a, b, c, q)
-}
-
-pub(crate) fn face_sign(coords: &[i32], f: [TouchNo; 3], q: Point) -> i32
-    requires { ⌜ Sound (now coords) × FaceOf (now coords) (plain f) × Near q ⌝ }
-    ensures { λ r. ⌜ r ≡ signOf (faceVol (touch (now (coords .entry))) (plain f) q) ⌝ }
-{
-    sign(face_volume(coords, f, q))
 }

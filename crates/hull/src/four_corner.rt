@@ -1,8 +1,7 @@
-// V of four points and the sign test: inner steps, on coordinates already checked.
+// V of four points: an inner step, on coordinates already checked.
 use touches::Point;
-ghost use mathlib.Core.Path.{_≡_};
 ghost use Rattle.touches.specs.Touches.{Near};
-ghost use Rattle.volume.specs.Volume.{Vol, mostVolume, signOf};
+ghost use Rattle.volume.specs.Volume.{Vol, mostVolume};
 ghost use Rattle.points.specs.Sizes.{Number};
 
 // V in whole numbers, the differences taken from d: the steps and the names of Code 4.16.
@@ -20,17 +19,4 @@ pub(crate) fn volume(a: Point, b: Point, c: Point, d: Point) -> i64
     let cy = c.y - d.y;
     let cz = c.z - d.z;
     ax * (by * cz - bz * cy) + ay * (bz * cx - bx * cz) + az * (bx * cy - by * cx)
-}
-
-// The sign test of a V: −1 in front of the face, 0 on its plane, 1 behind.
-pub(crate) fn sign(v: i64) -> i32
-    ensures { λ r. ⌜ r ≡ signOf v ⌝ }
-{
-    if v < 0 {
-        return -1;
-    }
-    if 0 < v {
-        return 1;
-    }
-    0
 }

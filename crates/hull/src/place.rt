@@ -1,28 +1,48 @@
 // Where a place lies against a face table, hull or not.
-use crate::face::face_sign;
+use crate::face::face_volume;
 use touches::Checked;
 use touches::FaceNo;
 use touches::Point;
 use touches::Refusal;
 ghost use mathlib.Core.Path.{_≡_};
 ghost use mathlib.Core.Bool.{true};
+ghost use Rattle.laws.specs.Numbers.{Within};
 ghost use Rattle.touches.specs.Touches.{touch, touchCount, Near, Sound};
+ghost use Rattle.volume.specs.Volume.{mostVolume};
 ghost use Rattle.rules.specs.Placing.{lies};
 ghost use Rattle.table.specs.Table.{facesIn, usable};
-ghost use Rattle.hull.specs.Inner.{earlier, settled};
+ghost use Rattle.hull.specs.Inner.{worse, earlier, settled};
 ghost use Rattle.hull.specs.Place.{placedBy, placed};
 
+// Outside comes with the worst face, the one with the least V, and minus that V.
 pub enum Placed {
-    Outside(FaceNo),
+    Outside(FaceNo, i64),
     On(FaceNo),
     Inside,
     Refused(Refusal),
+}
+
+// The worst face so far and its V: 0 while the place is in front of none.
+struct Worst {
+    face: FaceNo,
+    v: i64,
 }
 
 // The first face of a kind.
 enum First {
     Nowhere,
     At(FaceNo),
+}
+
+// Face f is the worst if its V is less than any before it.
+fn worse(w: Worst, f: FaceNo, v: i64) -> Worst
+    requires { ⌜ Within mostVolume (w .v) × Within mostVolume v ⌝ }
+    ensures { λ r. ⌜ r ≡ worse w f v ⌝ }
+{
+    if v < w.v {
+        return Worst { face: f, v };
+    }
+    w
 }
 
 // Face f is the first, if it is of the kind and none was before it.
@@ -41,15 +61,17 @@ fn earlier(first: First, f: FaceNo, here: bool) -> First
 }
 
 // A face that the place is in front of comes before one whose plane holds it.
-fn settle(front: First, on: First) -> Placed
-    ensures { λ r. ⌜ r ≡ settled front on ⌝ }
+fn settle(w: Worst, on: First) -> Placed
+    requires { ⌜ Within mostVolume (w .v) ⌝ }
+    ensures { λ r. ⌜ r ≡ settled w on ⌝ }
 {
-    match front {
-        First::At(f) => Placed::Outside(f),
-        First::Nowhere => match on {
-            First::At(g) => Placed::On(g),
-            First::Nowhere => Placed::Inside,
-        },
+    let f = w.face;
+    if w.v < 0 {
+        return Placed::Outside(f, -w.v);
+    }
+    match on {
+        First::At(g) => Placed::On(g),
+        First::Nowhere => Placed::Inside,
     }
 }
 
@@ -58,17 +80,20 @@ fn look(coords: &[i32], faces: &[u16], q: Point) -> Placed
     ensures { λ r. ⌜ r ≡ placedBy (lies (touch (now (coords .entry))) (facesIn (now (faces .entry))) q) ⌝ }
 {
     let n = table::room(faces);
-    let mut front = First::Nowhere;
+    let mut w = Worst {
+        face: FaceNo(0),
+        v: 0,
+    };
     let mut on = First::Nowhere;
     let mut i: usize = 0;
     while i < n {
         let f = FaceNo(i as u16);
-        let s = face_sign(coords, table::face(faces, f), q);
-        front = earlier(front, f, s < 0);
-        on = earlier(on, f, s == 0);
+        let v = face_volume(coords, table::face(faces, f), q);
+        w = worse(w, f, v);
+        on = earlier(on, f, v == 0);
         i += 1;
     }
-    settle(front, on)
+    settle(w, on)
 }
 
 // Refusals 1, 2, 3, 6, 7.

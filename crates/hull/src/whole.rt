@@ -1,5 +1,4 @@
 // The planes that building keeps beside its faces: once a plane is known, V takes three products.
-use crate::four_corner::sign;
 use points::vectors::dot;
 use points::whole::plane_on;
 use touches::Point;
@@ -34,7 +33,7 @@ pub(crate) fn in_front(p: [i64; 4], q: Point) -> bool
     requires { ⌜ PlaneNear p × Near q ⌝ }
     ensures { λ r. ⌜ r ≡ ltZ (readAt p q) (pos 0) ⌝ }
 {
-    sign(read(p, q)) < 0
+    read(p, q) < 0
 }
 
 // The first of n planes whose face q is in front of, n where there is none.

@@ -11,6 +11,7 @@ pub mod Members
 pub mod Sums
 pub mod Tables
 pub mod Firsts
+pub mod Leasts
 pub mod Turns
 pub mod Uses
 pub mod Pigeons

@@ -198,6 +198,15 @@ getD-in [] i d h = absurd (omega arith)
 getD-in (x ∷ l) zero d h = here refl
 getD-in (x ∷ l) (suc i) d h = there (getD-in l i d (omega arith))
 
+-- and a member stands at some place
+pub in-getD : {A : Type 0} (l : List A) {y : A} (d : A) → In y l → (i : ℕ) × (i < length l) × (getD l i d ≡ y)
+in-getD [] d m = absurd (List·Memᴰ·not-nil m)
+in-getD {A} (x ∷ l) {y} d m = go (λ n. in-getD l d n) (List·Memᴰ·cases-cons m)
+  where
+    go : (In y l → (i : ℕ) × (i < length l) × (getD l i d ≡ y)) → (y ≡ x) ⊎ In y l → (i : ℕ) × (i < length (x ∷ l)) × (getD (x ∷ l) i d ≡ y)
+    go r (inl e) = (0, omega arith, sym e)
+    go r (inr n) = let u = r n in (suc (u .0), omega (arith, u .1), u .2)
+
 -- where all pass, each does
 pub every-at : {A : Type 0} (q : A → Bool) (l : List A) (i : ℕ) (d : A) → i < length l → T (every q l) → T (q (getD l i d))
 every-at q [] i d h t = absurd (omega arith)

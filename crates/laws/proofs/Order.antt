@@ -80,6 +80,9 @@ pub <-trans : {a b c : ℤ} → a <ℤ b → b <ℤ c → a <ℤ c
 pub ≤-<-trans : {a b c : ℤ} → a ≤ℤ b → b <ℤ c → a <ℤ c
 ≤-<-trans {a} {b} {c} h k = omega (arith, zs)
 
+pub <-≤-trans : {a b c : ℤ} → a <ℤ b → b ≤ℤ c → a <ℤ c
+<-≤-trans {a} {b} {c} h k = omega (arith, zs)
+
 pub <→≤ : {a b : ℤ} → a <ℤ b → a ≤ℤ b
 <→≤ {a} {b} h = omega (arith, zs)
 

@@ -1,12 +1,13 @@
--- Lists: membership, the elements that pass a test, the first that does, pairs, sums, and a list laid into a table.
+-- Lists: membership, the elements that pass a test, the first that does, the least, pairs, sums, and a list laid into a table.
 use mathlib.Core.Path.{_≡_}
 use mathlib.Core.Logic.{_≢_}
-use mathlib.Core.Bool.{Bool, true, false, _&&_, _||_}
+use mathlib.Core.Bool.{Bool, true, false, _&&_, _||_, cond}
 use mathlib.Core.List.{List, [], _∷_, _++_, List·Memᴰ}
 use mathlib.Core.Option.{Option, none, some}
-use Prim.Native.Nat.{ℕ, zero, suc, _+_}
+use Prim.Native.Nat.{ℕ, zero, suc, _+_, _<_}
 use lib.IntN.{ℤ, pos, _+ℤ_}
-use lib.ListN.{length, take, drop}
+use lib.Signed.{_≤ℤ_, _<ℤ_, ltZ}
+use lib.ListN.{length, take, drop, getD}
 
 abbrev pub In : {A : Type 0} → A → List A → Type 0
 In x l = List·Memᴰ x l
@@ -33,6 +34,28 @@ first q (x ∷ l) = elim (q x) [ true ↦ some x | false ↦ first q l ]
 abbrev pub firstFrom : {A : Type 0} → (A → Bool) → ℕ → List A → Option ℕ
 firstFrom q i [] = none
 firstFrom q i (x ∷ l) = elim (q x) [ true ↦ some i | false ↦ firstFrom q (suc i) l ]
+
+-- a place in a list, and a number of the element there
+pub record Least : Type 0 where
+  pub place : ℕ
+  pub value : ℤ
+
+-- of two the one with the less number, the first of equals
+abbrev pub lesser : Least → Option Least → Least
+lesser a none = a
+lesser a (some b) = cond (ltZ (b .value) (a .value)) b a
+
+-- the element with the least g, the first of equals, the list's first element being number i
+abbrev pub leastFrom : {A : Type 0} → (A → ℤ) → ℕ → List A → Option Least
+leastFrom g i [] = none
+leastFrom g i (x ∷ l) = some (lesser (record { place = i; value = g x }) (leastFrom g (suc i) l))
+
+-- what that says: element number i has g at v, at most that of every element, and less than that of every element before it
+pub record LeastAt {A : Type 0} (g : A → ℤ) (d : A) (l : List A) (i : ℕ) (v : ℤ) : Type 0 where
+  pub within : i < length l
+  pub is : g (getD l i d) ≡ v
+  pub least : (j : ℕ) → j < length l → v ≤ℤ g (getD l j d)
+  pub first : (j : ℕ) → j < i → v <ℤ g (getD l j d)
 
 -- i, i + 1, .., n of them
 abbrev pub upward : ℕ → ℕ → List ℕ

@@ -7,7 +7,7 @@ use Rattle.touches.specs.declared.Point.{Point}
 use Rattle.touches.specs.declared.Refusal.{Refusal}
 use Rattle.planes.specs.declared.Plane.{Plane}
 use Rattle.hull.specs.Build.{builtRefusal, builtCount, builtVolume}
-use Rattle.hull.specs.Place.{placedRefusal, placedFace}
+use Rattle.hull.specs.Place.{placedRefusal, placedFace, placedMinusV}
 use Rattle.hull.specs.declared.build.Built.{Built}
 use Rattle.hull.specs.declared.place.Placed.{Placed}
 use Rattle.hull.specs.declared.place.Placed.the-variants.{Outside, On, Inside, Refused}
@@ -24,15 +24,15 @@ numbers r = pos (r .number) ∷ pos (r .place .0) ∷ []
 abbrev pub builtNumbers : Built → List ℤ
 builtNumbers a = numbers (builtRefusal a) ++ (pos (builtCount a) ∷ builtVolume a ∷ [])
 
--- placing: then the kind, 0 refused, 1 outside, 2 on, 3 inside, counted apart from the refusals; and the face
+-- placing: then the kind, 0 refused, 1 outside, 2 on, 3 inside, counted apart from the refusals; the face; and minus its V, 0 unless outside
 abbrev pub placedKind : Placed → ℕ
-placedKind (Outside f) = 1
+placedKind (Outside f d) = 1
 placedKind (On f) = 2
 placedKind Inside = 3
 placedKind (Refused r) = 0
 
 abbrev pub placedNumbers : Placed → List ℤ
-placedNumbers a = numbers (placedRefusal a) ++ (pos (placedKind a) ∷ pos (placedFace a .0) ∷ [])
+placedNumbers a = numbers (placedRefusal a) ++ (pos (placedKind a) ∷ pos (placedFace a .0) ∷ placedMinusV a ∷ [])
 
 abbrev pub planeNumbers : Plane → List Float
 planeNumbers p = p .x ∷ p .y ∷ p .z ∷ p .offset ∷ []

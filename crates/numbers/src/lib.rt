@@ -6,7 +6,6 @@ use planes::Reading;
 use plumb::Plumbed;
 use touches::Refusal;
 ghost use mathlib.Core.Path.{_≡_};
-ghost use mathlib.Core.List.{[], _∷_, _++_};
 ghost use lib.IntN.{pos};
 ghost use Rattle.planes.specs.Planes.{planedRefusal, planedPlane, readingRefusal, readingValue};
 ghost use Rattle.numbers.specs.Numbers.{numbers, builtNumbers, placedNumbers, planeNumbers, plumbedNumbers, plumbedHeights, one};
@@ -33,34 +32,33 @@ fn said(r: Refusal) -> [i64; 2]
     [wide8(number), wide16(place)]
 }
 
-// The same, and two zeros after them.
-fn said_alone(r: Refusal) -> [i64; 4]
-    ensures { λ o. ⌜ o ≡ numbers r ++ (pos 0 ∷ pos 0 ∷ []) ⌝ }
-{
-    let number = r.number;
-    let place = r.place.0;
-    [wide8(number), wide16(place), 0, 0]
-}
-
 // Then the face count and the volume.
 pub fn built_numbers(a: Built) -> [i64; 4]
     ensures { λ o. ⌜ o ≡ builtNumbers a ⌝ }
 {
     match a {
         Built::Hull(n, v) => [0, 0, wide16(n), v],
-        Built::Refused(r) => said_alone(r),
+        Built::Refused(r) => {
+            let number = r.number;
+            let place = r.place.0;
+            [wide8(number), wide16(place), 0, 0]
+        }
     }
 }
 
-// Then the kind, 0 refused, 1 outside, 2 on, 3 inside, counted apart from the refusals; and the face.
-pub fn placed_numbers(a: Placed) -> [i64; 4]
+// Then the kind, 0 refused, 1 outside, 2 on, 3 inside, counted apart from the refusals; the face; and minus its V, outside alone.
+pub fn placed_numbers(a: Placed) -> [i64; 5]
     ensures { λ o. ⌜ o ≡ placedNumbers a ⌝ }
 {
     match a {
-        Placed::Outside(f) => [0, 0, 1, wide16(f.0)],
-        Placed::On(f) => [0, 0, 2, wide16(f.0)],
-        Placed::Inside => [0, 0, 3, 0],
-        Placed::Refused(r) => said_alone(r),
+        Placed::Outside(f, d) => [0, 0, 1, wide16(f.0), d],
+        Placed::On(f) => [0, 0, 2, wide16(f.0), 0],
+        Placed::Inside => [0, 0, 3, 0, 0],
+        Placed::Refused(r) => {
+            let number = r.number;
+            let place = r.place.0;
+            [wide8(number), wide16(place), 0, 0, 0]
+        }
     }
 }
 

@@ -107,8 +107,8 @@ module _ {cs : List ℤ} {old : List ℕ} {n : ℕ} {v : ℤ} {h : List Face} (i
       from (inr a) = inr (faceNo (a .0), at ∙ ap placedBy (a .1))
 
   -- where the line misses, every place over x and y is outside
-  pub call-outside : plumbed cs x y ≡ Misses → (f : FaceNo) × (placedAt ≡ Outside f)
+  pub call-outside : plumbed cs x y ≡ Misses → (f : FaceNo) × (d : ℤ) × (placedAt ≡ Outside f d)
   call-outside k =
       let m = line-misses (touch cs) (touchCount cs) (i .is) x y .1 (call-misses (i .sound) (i .is) x y w .0 k) in
       let o = misses-outside (touch cs) (touchCount cs) (i .is) x y m z in
-      (faceNo (o .0), at ∙ ap placedBy (o .1))
+      (faceNo (o .0), o .1, at ∙ ap placedBy (o .2))

@@ -9,7 +9,7 @@ use Rattle.touches.specs.declared.Point.{Point}
 use Rattle.volume.specs.Volume.{Vol, normal, inLine}
 use Rattle.rules.specs.Faces.{Face, Places, faceVol, visible}
 use Rattle.rules.specs.Building.{seen, unseen, step, build, hull, volume}
-use Rattle.rules.specs.Placing.{outside, on, inside, firstFront, firstHolding, lies}
+use Rattle.rules.specs.Placing.{outside, on, inside, worst, firstHolding, lies}
 
 abbrev at : ℤ → ℤ → ℤ → Point
 at x y z = record { x = x; y = y; z = z }
@@ -64,12 +64,12 @@ pub record Blocks : Type 0 where
   pub flat : hull (places plane) 4 ≡ none
   pub lies-inside : lies (places block) four (at (pos 1) (pos 1) (pos 1)) ≡ inside
   pub lies-on : lies (places block) four (at (pos 2) (pos 3) (pos 5)) ≡ on 3
-  pub lies-outside : lies (places block) four (at (pos 10) (pos 10) (pos 10)) ≡ outside 3
+  pub lies-outside : lies (places block) four (at (pos 10) (pos 10) (pos 10)) ≡ outside 3 (pos 2000)
   -- beside the paper's: on the planes of two faces and in front of a third
-  pub lies-beyond : lies (places block) four (at (pos 20) o o) ≡ outside 3
+  pub lies-beyond : lies (places block) four (at (pos 20) o o) ≡ outside 3 (pos 1000)
 
 pub blocks : Blocks
-unfolding hull build step seen unseen volume visible faceVol Vol inLine normal lies firstFront firstHolding
+unfolding hull build step seen unseen volume visible faceVol Vol inLine normal lies worst firstHolding
 blocks = record {
   T = record { faces = refl; size = refl };
   corner = record { faces = refl; size = refl };

@@ -101,14 +101,14 @@ module _ (p : Places) (n : ℕ) {h : List Face} (e : hull p n ≡ some h) where
         from (through u l) s f = absurd (f u (s .1 .upper) (s .1 .heights u (s .1 .upper) .1 (<→≤ (s .0), ≤-refl (u .top *ℤ u .bottom))))
 
     -- then every place over x and y is outside
-    pub misses-outside : plumb p h x y ≡ misses → (z : ℤ) → (i : ℕ) × (lies p h (over x y z) ≡ outside i)
+    pub misses-outside : plumb p h x y ≡ misses → (z : ℤ) → (i : ℕ) × (d : ℤ) × (lies p h (over x y z) ≡ outside i d)
     misses-outside q z = go (lies p h (over x y z)) refl
       where
         no-place : OnOrInside p h (over x y z) → ⊥
         no-place d = misses-nowhere .0 q (whole z) (record { lt = tt }) (whole-height p h x y z .1 d)
 
-        go : (a : Lies) → lies p h (over x y z) ≡ a → (i : ℕ) × (a ≡ outside i)
-        go (outside i) r = (i, refl)
+        go : (a : Lies) → lies p h (over x y z) ≡ a → (i : ℕ) × (d : ℤ) × (a ≡ outside i d)
+        go (outside i d) r = (i, d, refl)
         go (onFace i) r = absurd (no-place (lies-within p h (over x y z) .0 (inr (i, r))))
         go inside r = absurd (no-place (lies-within p h (over x y z) .0 (inl r)))
 

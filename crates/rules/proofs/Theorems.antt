@@ -134,10 +134,10 @@ module _ {p r : Places} {n m : ℕ} {h g : List Face} (w : Growth p r n m h g) w
   pub on-stays : (q : Point) (i : ℕ) → lies p h q ≡ on i → (lies r g q ≡ inside) ⊎ ((j : ℕ) × (lies r g q ≡ on j))
   on-stays q i e = lies-within r g q .1 (w .on q (lies-within p h q .0 (inr (i, e))))
 
-  pub rises-outside : (volume p h <ℤ volume r g) ↔ ((t : ℕ) × (n ≤ t) × (t < n + m) × (i : ℕ) × (lies p h (r t) ≡ outside i))
+  pub rises-outside : (volume p h <ℤ volume r g) ↔ ((t : ℕ) × (n ≤ t) × (t < n + m) × (i : ℕ) × (d : ℤ) × (lies p h (r t) ≡ outside i d))
   rises-outside = (
-    (λ l. let u = w .rises .0 l in let o = lies-outside p h (r (u .0)) .1 (u .3) in (u .0, u .1, u .2, o .0, o .1)),
-    (λ u. w .rises .1 (u .0, u .1, u .2, lies-outside p h (r (u .0)) .0 (u .3, u .4))),
+    (λ l. let u = w .rises .0 l in let o = lies-outside p h (r (u .0)) .1 (u .3) in (u .0, u .1, u .2, o .0, o .1, o .2)),
+    (λ u. w .rises .1 (u .0, u .1, u .2, lies-outside p h (r (u .0)) .0 (u .3, u .4, u .5))),
   )
 
 -- touches that repeat touches of the list, at its end, change nothing
@@ -153,19 +153,19 @@ module _ (L M : List ℤ) (l : length L % 3 ≡ 0) (k : length M % 3 ≡ 0) {h :
 
   -- the touches of M by their own numbers, and by those of the longer list
   abbrev SomeOutside : Type 0
-  SomeOutside = (t : ℕ) × (t < touchCount M) × (i : ℕ) × (lies (touch L) h (touch M t) ≡ outside i)
+  SomeOutside = (t : ℕ) × (t < touchCount M) × (i : ℕ) × (d : ℤ) × (lies (touch L) h (touch M t) ≡ outside i d)
 
   abbrev Later : Type 0
-  Later = (t : ℕ) × (touchCount L ≤ t) × (t < touchCount L + touchCount M) × (i : ℕ) × (lies (touch L) h (touch (L ++ M) t) ≡ outside i)
+  Later = (t : ℕ) × (touchCount L ≤ t) × (t < touchCount L + touchCount M) × (i : ℕ) × (d : ℤ) × (lies (touch L) h (touch (L ++ M) t) ≡ outside i d)
 
   to-own : Later → SomeOutside
-  to-own u = (u .0 - touchCount L, omega (arith, u .1, u .2), u .3, ap (lies (touch L) h) (sym (join-second L M l k (u .0 - touchCount L)) ∙ ap (touch (L ++ M)) (back (u .0) (u .1))) ∙ u .4)
+  to-own u = (u .0 - touchCount L, omega (arith, u .1, u .2), u .3, u .4, ap (lies (touch L) h) (sym (join-second L M l k (u .0 - touchCount L)) ∙ ap (touch (L ++ M)) (back (u .0) (u .1))) ∙ u .5)
     where
       back : (t : ℕ) → touchCount L ≤ t → touchCount L + (t - touchCount L) ≡ t
       back t b = omega arith
 
   from-own : SomeOutside → Later
-  from-own u = (touchCount L + u .0, omega arith, omega (arith, u .1), u .2, ap (lies (touch L) h) (join-second L M l k (u .0)) ∙ u .3)
+  from-own u = (touchCount L + u .0, omega arith, omega (arith, u .1), u .2, u .3, ap (lies (touch L) h) (join-second L M l k (u .0)) ∙ u .4)
 
   pub lists-rise : (volume (touch L) h <ℤ volume (touch (L ++ M)) (lists-grow .0)) ↔ SomeOutside
   lists-rise = ((λ v. to-own (rises-outside (lists-grow .2) .0 v)), (λ u. rises-outside (lists-grow .2) .1 (from-own u)))
@@ -174,6 +174,6 @@ module _ (L M : List ℤ) (l : length L % 3 ≡ 0) (k : length M % 3 ≡ 0) {h :
   lists-same d = lists-grow .2 .same (λ t a b. lies-within (touch L) h (touch (L ++ M) t) .0 (go t a b (lies (touch L) h (touch (L ++ M) t)) refl))
     where
       go : (t : ℕ) → touchCount L ≤ t → t < touchCount L + touchCount M → (x : Lies) → lies (touch L) h (touch (L ++ M) t) ≡ x → (lies (touch L) h (touch (L ++ M) t) ≡ inside) ⊎ ((i : ℕ) × (lies (touch L) h (touch (L ++ M) t) ≡ on i))
-      go t a b (outside i) e = absurd (d (to-own (t, a, b, i, e)))
+      go t a b (outside i c) e = absurd (d (to-own (t, a, b, i, c, e)))
       go t a b (on i) e = inr (i, e)
       go t a b inside e = inl e

@@ -2,18 +2,20 @@
 use mathlib.Core.Path.{_≡_}
 use mathlib.Core.Logic.{_↔_}
 use mathlib.Core.Bool.{false}
-use mathlib.Core.List.{List}
+use mathlib.Core.List.{List, []}
+use mathlib.Core.Option.{Option, none, some}
 use Prim.Native.Nat.{ℕ, _+_, _*_, _-_, _≤_, _<_}
 use lib.ListN.{length}
 use lib.IntN.{ℤ, pos}
-use lib.Signed.{_≤ℤ_, _<ℤ_}
-use Rattle.laws.specs.Lists.{In, Nodup}
+use lib.Signed.{_≤ℤ_, _<ℤ_, ltZ}
+use Rattle.laws.specs.Lists.{In, Nodup, firstFrom, LeastAt}
 use Rattle.touches.specs.declared.Point.{Point}
 use Rattle.touches.specs.Touches.{touchCount}
-use Rattle.volume.specs.Volume.{Vol, inLine}
+use Rattle.volume.specs.Volume.{Vol, inLine, isZero}
 use Rattle.rules.specs.Faces.{Face, Places, corner, Side, reversed, faceVol, sides}
 use Rattle.rules.specs.Start.{start}
 use Rattle.rules.specs.Building.{volume}
+use Rattle.rules.specs.Placing.{Lies, outside, on, inside}
 
 -- every four of the first n touches have V = 0
 abbrev pub Flat : Places → ℕ → Type 0
@@ -50,6 +52,27 @@ OnPlane p h q = (f : Face) × In f h × (faceVol p f q ≡ pos 0)
 -- q is in front of a face
 abbrev pub Outside : Places → List Face → Point → Type 0
 Outside p h q = (f : Face) × In f h × (faceVol p f q <ℤ pos 0)
+
+-- 02 A7: face number i is the worst, with V at v: no face has less, and every face before it has more
+abbrev pub Worst : Places → List Face → Point → ℕ → ℤ → Type 0
+Worst p h q i v = LeastAt (λ f. faceVol p f q) [] h i v
+
+-- 01's three cases, without face numbers: in front of some face, else on the plane of some face, else neither
+pub data Case : Type 0 where
+  outsideCase onCase insideCase : Case
+
+abbrev pub byFirsts : Option ℕ → Option ℕ → Case
+byFirsts (some f) o = outsideCase
+byFirsts none (some f) = onCase
+byFirsts none none = insideCase
+
+abbrev pub caseBefore : Places → List Face → Point → Case
+caseBefore p h q = byFirsts (firstFrom (λ f. ltZ (faceVol p f q) (pos 0)) 0 h) (firstFrom (λ f. isZero (faceVol p f q)) 0 h)
+
+abbrev pub caseOf : Lies → Case
+caseOf (outside i d) = outsideCase
+caseOf (on i) = onCase
+caseOf inside = insideCase
 
 -- demand 2: h is a closed surface over the first n touches, no touch is in front of it, and it has a body
 pub record Surface (p : Places) (n : ℕ) (h : List Face) : Type 0 where

@@ -2,7 +2,6 @@ pub mod Axes
 pub mod Quote
 pub mod VolumeLaws
 pub mod PlaneLaws
-pub mod SignLaws
 pub mod Rays
 pub mod Wings
 pub mod Turn

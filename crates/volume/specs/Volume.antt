@@ -1,7 +1,7 @@
--- 01 'Volume and the four-corner rule': V of four points, its sign, and the plane of a face.
+-- 01 'Volume and the four-corner rule': V of four points, and the plane of a face.
 use mathlib.Core.Bool.{Bool, _&&_}
-use Prim.Native.Nat.{ℕ, zero, suc, _*_}
-use lib.IntN.{ℤ, pos, negsuc, _+ℤ_, _-ℤ_, _*ℤ_}
+use Prim.Native.Nat.{ℕ, _*_}
+use lib.IntN.{ℤ, pos, _+ℤ_, _-ℤ_, _*ℤ_}
 use Rattle.laws.specs.Numbers.{eqZ}
 use Rattle.touches.specs.declared.Point.{Point}
 use Rattle.touches.specs.Limits.{reach}
@@ -30,12 +30,6 @@ mostNormal = 2 * mostGap * mostGap
 
 abbrev pub mostVolume : ℕ
 mostVolume = 48 * reach * reach * reach
-
--- the sign test's answer: −1 in front, 0 on the plane, 1 behind
-abbrev pub signOf : ℤ → ℤ
-signOf (pos zero) = pos 0
-signOf (pos (suc n)) = pos 1
-signOf (negsuc n) = negsuc 0
 
 abbrev pub minus : Point → Point → Point
 minus p q = record { x = p .x -ℤ q .x; y = p .y -ℤ q .y; z = p .z -ℤ q .z }

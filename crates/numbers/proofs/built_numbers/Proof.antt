@@ -1,7 +1,7 @@
 use borrow.Author.Needs.{needs, sfits-of}
 use mathlib.Core.Path.{_≡_, sym, ap, _∙_}
 use mathlib.Core.List.{[], _∷_}
-use lib.IntN.{ℤ, pos}
+use lib.IntN.{pos}
 use mir.Syntax.{w64}
 use mir.Val.{toZ, ofZ}
 use mir.Facts.{toZ-ofZ}
@@ -18,8 +18,11 @@ wide16-requires c κs = search needs
 enum-known-a-2 : tie.Need-enum-known-a-2
 enum-known-a-2 c = search needs
 
-said-alone-requires : tie.Need-said-alone-requires
-said-alone-requires c κs = search needs
+wide8-requires : tie.Need-wide8-requires
+wide8-requires c κs = search needs
+
+wide16-requires-2 : tie.Need-wide16-requires-2
+wide16-requires-2 c κs = search needs
 
 returns : tie.Need-returns
 returns c =
@@ -29,9 +32,12 @@ returns c =
     (λ i. pos 0 ∷ pos 0 ∷ count i ∷ volume i ∷ []) ∙ ap builtNumbers (sym (a .1))
 
 returns-2 : tie.Need-returns-2
-returns-2 c = c .said-alone .ensures ∙ ap builtNumbers (sym (c .before .before .a2 .given .1))
+returns-2 c =
+    let number = toZ-ofZ (sfits-of (c .before .wide8 .ok)) ∙ c .before .wide8 .ensures in
+    let place = toZ-ofZ (sfits-of (c .wide162 .ok)) ∙ c .wide162 .ensures in
+    (λ i. number i ∷ place i ∷ pos 0 ∷ pos 0 ∷ []) ∙ ap builtNumbers (sym (c .before .before .before .a2 .given .1))
 
 pub built-numbers-spec : {M : Type 1} → statement M
 built-numbers-spec =
     tie.close
-    (tie.spec enum-known-a wide16-requires enum-known-a-2 said-alone-requires returns returns-2)
+    (tie.spec enum-known-a wide16-requires enum-known-a-2 wide8-requires wide16-requires-2 returns returns-2)

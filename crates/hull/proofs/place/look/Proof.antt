@@ -1,77 +1,69 @@
--- The loop's invariant: the first i faces are looked at, for both kinds.
-use borrow.Author.Needs.{needs, sfits-of}
+-- The loop's invariant: the first i faces are looked at, for the worst and for the first whose plane holds the place.
+use borrow.Author.Needs.{needs}
 use mathlib.Core.Path.{_≡_, sym, _∙_, ap, subst}
 use Prim.Native.Nat.{_-_, _<_}
 use native.Mathlib.Omega.{arith}
 use lib.Dec.{eqb}
-use lib.IntN.{ℤ, pos}
-use lib.Signed.{ltZ}
-use mir.Syntax.{w32}
-use mir.Val.{toZ, ofZ}
-use mir.ValLaws.{toZ-ofZ}
-use Rattle.laws.proofs.Words.{eq-test}
-use Rattle.touches.specs.Touches.{touch, plain}
+use mir.Syntax.{w64}
+use mir.Val.{ofZ}
 use Rattle.volume.specs.Volume.{isZero}
-use Rattle.volume.proofs.SignLaws.{sign-below, sign-zero}
-use Rattle.rules.specs.Faces.{Face, faceVol}
+use Rattle.rules.specs.Faces.{Face}
 use Rattle.rules.specs.Demands.{FaceOf}
 use Rattle.table.specs.Table.{room, faceAt}
 use Rattle.table.proofs.UsableLaws.{usable-few, usable-face}
-use Rattle.hull.proofs.PlaceLaws.{Looked, looked-none, looked-more, front, holding, settled-is}
+use Rattle.points.proofs.NumberLaws.{rd, back, back-small, zero-test}
+use Rattle.hull.proofs.PlaceLaws.{Looked, looked-none, looked-more, Worsened, worst-none, worst-more, against, holding, settled-is}
 use Rattle.hull.proofs.place.look.Statement.{statement}
 use Rattle.hull.proofs.place.look.Tie as tie
 
 abbrev Inv-loop : tie.InvT-loop
-Inv-loop coords faces q n front₀ on₀ i₀ first on i = Looked faces (front coords q) i first × Looked faces (holding coords q) i on
+Inv-loop coords faces q n w₀ on₀ i₀ w on i = Worsened faces (against coords q) i w × Looked faces (holding coords q) i on
 
 abbrev μ-loop : tie.MeasureT-loop
-μ-loop coords faces q n front₀ on₀ i₀ first on i = n - i
+μ-loop coords faces q n w₀ on₀ i₀ w on i = n - i
 
--- the two tests of the next face
-front-is : (c : tie.After-face-sign Inv-loop μ-loop)
+-- V of the next face, and whether its plane holds the place
+volume-is : (c : tie.After-face-volume Inv-loop μ-loop)
     → let a = c .before .before .before .before .before .before .args in
-    ltZ (toZ w32 (ofZ w32 (c .face-sign .result))) (pos 0) ≡ front (a .coords .now) (a .q) (faceAt (a .faces .now) (c .before .before .before .loop .i))
-front-is c =
+    rd (c .face-volume .result) ≡ against (a .coords .now) (a .q) (faceAt (a .faces .now) (c .before .before .before .loop .i))
+volume-is c =
     let a = c .before .before .before .before .before .before .args in
-    let r = c .face-sign in
-    ap (λ (z : ℤ). ltZ z (pos 0)) (toZ-ofZ w32 (r .result) (sfits-of (r .ok)) ∙ r .ensures)
-    ∙ sign-below (faceVol (touch (a .coords .now)) (plain (c .before .face .result)) (a .q)) ∙ ap (front (a .coords .now) (a .q)) (c .before .face .ensures)
+    back tt (c .face-volume .ensures) ∙ ap (against (a .coords .now) (a .q)) (c .before .face .ensures)
 
-on-is : (c : tie.After-face-sign Inv-loop μ-loop)
+on-is : (c : tie.After-face-volume Inv-loop μ-loop)
     → let a = c .before .before .before .before .before .before .args in
-    eqb (ofZ w32 (c .face-sign .result)) 0 ≡ holding (a .coords .now) (a .q) (faceAt (a .faces .now) (c .before .before .before .loop .i))
+    eqb (ofZ w64 (c .face-volume .result)) 0 ≡ holding (a .coords .now) (a .q) (faceAt (a .faces .now) (c .before .before .before .loop .i))
 on-is c =
     let a = c .before .before .before .before .before .before .args in
-    let r = c .face-sign in
-    eq-test w32 {a = r .result} {b = pos 0} (sfits-of (r .ok)) (search needs) ∙ ap isZero (r .ensures)
-    ∙ sign-zero (faceVol (touch (a .coords .now)) (plain (c .before .face .result)) (a .q)) ∙ ap (holding (a .coords .now) (a .q)) (c .before .face .ensures)
+    let v = c .face-volume .ensures in
+    zero-test tt (v .small) ∙ ap isZero (v .is) ∙ ap (holding (a .coords .now) (a .q)) (c .before .face .ensures)
 
 room-requires : tie.Need-room-requires Inv-loop μ-loop
 room-requires c κs = search needs
 
 loop-holds : tie.Need-loop-holds Inv-loop μ-loop
-loop-holds c = (looked-none _ _, looked-none _ _)
+loop-holds c = (worst-none _ _, looked-none _ _)
 
-cast-t11 : tie.Need-cast-t11 Inv-loop μ-loop
-cast-t11 c =
+cast-t12 : tie.Need-cast-t12 Inv-loop μ-loop
+cast-t12 c =
     let s = c .before .before .before .before in
     omega (arith, c .before .before .room .ensures, usable-few (s .args .coords .now) (s .args .faces .now) (s .pre .1))
 
 face-requires : tie.Need-face-requires Inv-loop μ-loop
 face-requires c κs = omega (arith, c .before .before .room .ensures)
 
-face-sign-requires : tie.Need-face-sign-requires Inv-loop μ-loop
-face-sign-requires c κs =
+face-volume-requires : tie.Need-face-volume-requires Inv-loop μ-loop
+face-volume-requires c κs =
     let s = c .before .before .before .before .before in
     let cs = s .args .coords .now in
     let h = usable-face cs (s .args .faces .now) (s .pre .1) (c .before .before .loop .i) (omega (arith, c .before .before .before .room .ensures)) in
     (s .pre .0, subst (λ (f : Face). FaceOf cs f) (sym (c .face .ensures)) h, s .pre .2)
 
+worse-requires : tie.Need-worse-requires Inv-loop μ-loop
+worse-requires c κs = (c .before .before .before .loop .inv .0 .small, back-small tt (c .face-volume .ensures))
+
 earlier-requires : tie.Need-earlier-requires Inv-loop μ-loop
 earlier-requires c κs = search needs
-
-earlier-requires-2 : tie.Need-earlier-requires-2 Inv-loop μ-loop
-earlier-requires-2 c κs = search needs
 
 add-i : tie.Need-add-i Inv-loop μ-loop
 add-i c = search needs
@@ -84,10 +76,10 @@ loop-again c =
     let l = c .before .before .before .before .before .loop in
     let v = c .before .before in
     let h : l .i < room (v .before .before .before .before .before .before .args .faces .now) = omega (arith, v .before .before .before .before .room .ensures) in
-    (rw (c .before .earlier .ensures) (looked-more (l .inv .0) h (front-is v)), rw (c .earlier2 .ensures) (looked-more (l .inv .1) h (on-is v)))
+    (rw (c .before .worse .ensures) (worst-more (l .inv .0) h (volume-is v) (back-small tt (v .face-volume .ensures))), rw (c .earlier .ensures) (looked-more (l .inv .1) h (on-is v)))
 
 settle-requires : tie.Need-settle-requires Inv-loop μ-loop
-settle-requires c κs = search needs
+settle-requires c κs = c .before .loop .inv .0 .small
 
 returns : tie.Need-returns Inv-loop μ-loop
 returns c =
@@ -103,11 +95,11 @@ look-spec =
     μ-loop
     room-requires
     loop-holds
-    cast-t11
+    cast-t12
     face-requires
-    face-sign-requires
+    face-volume-requires
+    worse-requires
     earlier-requires
-    earlier-requires-2
     add-i
     loop-less
     loop-again
