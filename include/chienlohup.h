@@ -33,6 +33,8 @@
     10  the record's bytes after the version byte are no multiple of 6
     11  the lent coordinate list is too short for the record's touches
     12  the lent record buffer is too short
+    17  the asked place is in front of no face and on the plane of one, but in no triangle
+        on whose plane it lies; for a table that building wrote this is never given
 
    A call gives the first refusal, in its own order, that applies.
 
@@ -71,11 +73,13 @@ void chienlohup_build(const int32_t *touches, size_t touches_len,
                       uint16_t *faces, size_t faces_len, int64_t out[4]);
 
 /* Says where the place (x, y, z) lies against a face table, be it a hull or not.
-   Refusals in order: 1, 2, 3, 6, 7.
+   Refusals in order: 1, 2, 3, 6, 7, 17.
    out[2]: the kind, 0 refused, 1 outside, 2 on, 3 inside. These are no refusal numbers.
    out[3]: outside, the number of the worst face, the one that the place is most in front
    of: the one with the greatest out[4], of equals the first; on, the number of the first
-   face whose plane holds the place; inside, 0.
+   face whose plane holds the place and whose triangle contains it, border included;
+   inside, 0. A face with its corners in line contains the smallest segment that has
+   them, one whose corners are one point that point.
    out[4]: outside, ((b - a) cross (c - a)) dot (q - a) of that face and the place q, which
    is minus V and above zero: six times the volume between the place and the face. A
    large face counts for more than a small one, and it is no length. Else 0.

@@ -78,12 +78,39 @@ def worst_faces():
     placed((10, 10, 10), second.OUTSIDE, 0, 2000, faces=FOUR[9:])
     placed((10, 10, 10), second.OUTSIDE, 1, 2000, faces=FOUR[:3] + 2 * FOUR[9:])
     line = (1, 1, 0)
-    placed((1, 1, 1), second.ON, 0, faces=line + FOUR)
     placed((10, 10, 10), second.OUTSIDE, 4, 2000, faces=line + FOUR)
     # Eight times 30,000 cubed.
     far = 30_000
     wide = (far, far, far), (far, -far, -far), (-far, far, -far), (-far, -far, far)
     placed((far, far, -far), second.OUTSIDE, 0, 216_000_000_000_000, wide, (0, 1, 2, 0, 3, 1, 1, 3, 2, 2, 3, 0))
+
+
+def astray(place, touches=T, faces=FOUR):
+    answer = second.place(flat_list(touches), faces, *place)
+    assert answer == (17, 0, second.REFUSED, 0, 0), answer
+
+
+def triangles():
+    # The flat side of two triangles, 1 0 2 and 1 2 4: inside each, on the border between them, on a corner.
+    more = (*T, (10, 10, 0))
+    placed((3, 3, 0), second.ON, 0, touches=more, faces=SIX)
+    placed((9, 9, 0), second.ON, 5, touches=more, faces=SIX)
+    placed((5, 5, 0), second.ON, 0, touches=more, faces=SIX)
+    placed((10, 10, 0), second.ON, 3, touches=more, faces=SIX)
+    # One triangle alone: on its border, on its plane beyond it, behind it.
+    placed((0, 5, 0), second.ON, 0, faces=FOUR[:3])
+    astray((9, 9, 0), faces=FOUR[:3])
+    placed((9, 9, 1), second.INSIDE, 0, faces=FOUR[:3])
+    # A face in line: between its ends, on an end, past it, beside it; a face that is one point.
+    placed((7, 0, 0), second.ON, 0, faces=(0, 1, 1))
+    placed((10, 0, 0), second.ON, 0, faces=(1, 0, 1))
+    astray((11, 0, 0), faces=(0, 1, 0))
+    astray((7, 1, 0), faces=(0, 1, 1))
+    placed((0, 0, 10), second.ON, 0, faces=(3, 3, 3))
+    astray((0, 0, 9), faces=(3, 3, 3))
+    # Outside is known before: the line holds no place of its line beyond it, and the other face is in front.
+    placed((10, 10, 10), second.OUTSIDE, 1, 2000, faces=(0, 1, 1) + FOUR[9:])
+    astray((1, 1, 1), faces=(1, 1, 0) + FOUR)
 
 
 def listing():
@@ -132,6 +159,7 @@ def plumb_lines():
 if __name__ == "__main__":
     blocks()
     worst_faces()
+    triangles()
     listing()
     volumes()
     plumb_lines()

@@ -593,7 +593,7 @@ def fixed_place(rng):
         yield "P", numbers, last[: length - 3] + table[9:12], 2, 3, 5
     for place in every_beyond((1, 1, 1), (*BEYOND, FAR, -FAR)):
         yield "P", numbers, table, *place
-    # A face in line holds every place, and comes before one that is not.
+    # Every place is on the plane of a face in line.
     for face in itertools.product(range(4), repeat=3):
         yield "P", numbers, face + table, 1, 1, 1
         yield "P", numbers, table + face, 1, 1, 1
@@ -604,6 +604,33 @@ def fixed_place(rng):
     for other, place in itertools.product(others, itertools.product((-7, -1, 0, 1, 20), repeat=3)):
         yield "P", numbers, other, *place
         yield "P", low, other, *place
+    # A flat side of two triangles and of many, whole and in part: on each, on borders and corners, and beyond.
+    two = (*T, (10, 10, 0))
+    many = tuple((x, y, z) for x, y, z in itertools.product((0, 4, 8), (0, 4, 8), (0, 8)))
+    for made, side in itertools.product((two, many), (0, 8)):
+        faces = second.hull(made)
+        for part in (faces, faces[::-1], faces[:1], faces[-2:], faces[::2]):
+            for x, y in itertools.product(range(-1, 12, 1 if made is two else 2), repeat=2):
+                yield "P", flat_list(made), flat_list(part), x, y, side
+                yield "P", flat_list(made), flat_list(part), side, x, y
+    # Faces in line and faces that are one point.
+    row = ((0, 0, 0), (2, 4, 6), (3, 6, 9), (-1, -2, -3), (0, 0, 7))
+    for face in itertools.product(range(5), repeat=3):
+        for k in (-2, -1, 0, 1, 2, 3, 4):
+            yield "P", flat_list(row), face, k, 2 * k, 3 * k
+        yield "P", flat_list(row), face, 0, 0, rng.randint(-1, 8)
+        yield "P", flat_list(row), face, 1, 2, 4
+    # As wide as can be: on the sides of a triangle, close to them and on its plane beyond.
+    for _ in range(400):
+        corners = tuple(small_point(rng, FAR) for _ in range(3))
+        a, b, c = corners
+        j, k = rng.choice(((0, 0), (1, 0), (1, 1), (2, 0), (-1, 1), (2, -1), (1, -1)))
+        place = tuple(a[i] + j * ((b[i] - a[i]) // 2) + k * ((c[i] - a[i]) // 2) for i in range(3))
+        even = tuple(tuple(a[i] + 2 * ((p[i] - a[i]) // 2) for i in range(3)) for p in corners)
+        if second.in_range(place):
+            yield "P", flat_list(even), rng.choice(((0, 1, 2), (1, 2, 0), (2, 1, 0))), *place
+    # Out of range, and on a plane in no triangle.
+    yield "P", numbers, table[:3], FAR + 1, 0, 0
     # Flat touches and no touches are no ground here.
     yield "P", numbers[:9], (0, 1, 2), 0, 0, 0
     yield "P", (), (0, 0, 0), 0, 0, 0

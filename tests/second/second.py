@@ -32,7 +32,7 @@ MISSES, TOUCHES, THROUGH = 1, 2, 3
 # 01, Refusal numbers, and 02: each call's order
 ORDER = {
     "B": (1, 2, 3, 4, 5),
-    "P": (1, 2, 3, 6, 7),
+    "P": (1, 2, 3, 6, 7, 17),
     "L": (1, 2, 3, 6),
     "Q": (1, 2, 3, 6, 7),
     "R": (8, 9, 10, 2, 3, 11),
@@ -213,16 +213,53 @@ def volume(touches, faces):
 # Where a place lies
 
 
+def difference(p, q):
+    return [p[i] - q[i] for i in range(3)]
+
+
+def dot(u, w):
+    return sum(u[i] * w[i] for i in range(3))
+
+
+def on_segment(a, b, c, q):
+    # 02, A5: between the two corners that are farthest apart
+    s, t = max(((a, b), (b, c), (c, a)), key=lambda ends: dot(difference(*ends), difference(*ends)))
+    way, here = difference(t, s), difference(q, s)
+    return in_line(s, t, q) and 0 <= dot(way, here) <= dot(way, way) if s != t else q == s
+
+
+def in_triangle(a, b, c, q):
+    # 02, A5: the shares of two sides that lead from a to q, worked from the products of the sides
+    u, w, here = difference(b, a), difference(c, a), difference(q, a)
+    uu, uw, ww, hu, hw = dot(u, u), dot(u, w), dot(w, w), dot(here, u), dot(here, w)
+    of_u, of_w, whole = hu * ww - hw * uw, hw * uu - hu * uw, uu * ww - uw * uw
+    return of_u >= 0 and of_w >= 0 and of_u + of_w <= whole
+
+
+def triangle_contains(a, b, c, q):
+    # 02, A5: of a place on the face's plane, border included
+    return (on_segment if in_line(a, b, c) else in_triangle)(a, b, c, q)
+
+
+def holding(touches, faces, place):
+    # 02, A5: the numbers of the faces on whose plane it lies and whose triangle contains it
+    return [
+        number
+        for number, face in enumerate(faces)
+        if on_plane(V_of_face(touches, face, place)) and triangle_contains(*(touches[k] for k in face), place)
+    ]
+
+
 def lies(touches, faces, place):
-    # 01, Where a place lies, and 02, A7: what it is, the face number and minus V
+    # 01, Where a place lies, and 02, A5 and A7: what it is, the face number and minus V; no kind where it is in no triangle
     volumes = [V_of_face(touches, face, place) for face in faces]
     if any(map(in_front, volumes)):
         least = min(volumes)
         return OUTSIDE, volumes.index(least), -least
-    for number, each in enumerate(volumes):
-        if on_plane(each):
-            return ON, number, 0
-    return INSIDE, 0, 0
+    if not any(map(on_plane, volumes)):
+        return INSIDE, 0, 0
+    held = holding(touches, faces, place)
+    return (ON, held[0], 0) if held else (REFUSED, 0, 0)
 
 
 # The plumb line
@@ -406,6 +443,11 @@ def no_room_for_record(touches, buffer):
     return when(len(buffer) < 3 + 6 * len(touches))
 
 
+def in_no_triangle(touches, faces, place):
+    # 02, A5, refusal 17
+    return when(lies(touches, faces, place)[0] == REFUSED)
+
+
 def refusal(order, grounds):
     # 01, Refusal numbers: the first in the call's order; 0 and 0 if none applies
     for number in order:
@@ -468,11 +510,12 @@ def build(numbers, table):
 
 
 def place(numbers, table, x, y, z):
-    # 01, Where a place lies, and 02, A7
+    # 01, Where a place lies, and 02, A5 and A7
     touches = touches_of(numbers)
     grounds = grounds_of_touches(numbers, touches)
     grounds[6] = lambda: bad_table(touches, table)
     grounds[7] = lambda: place_out_of_range((x, y, z))
+    grounds[17] = lambda: in_no_triangle(touches, faces_of(table), (x, y, z))
     number, at = refusal(ORDER["P"], grounds)
     if number:
         return number, at, REFUSED, 0, 0

@@ -14,6 +14,11 @@ const LOW: [i32; 12] = [0, 0, 0, 10, 0, 0, 0, 10, 0, 0, 0, -R];
 
 const FAR: [i32; 12] = [0, 0, 0, 10, 0, 0, 0, 10, 0, 0, 0, R + 1];
 
+// T and a touch beside its bottom: a flat side of two triangles.
+const MORE: [i32; 15] = [0, 0, 0, 10, 0, 0, 0, 10, 0, 0, 0, 10, 10, 10, 0];
+
+const SIX: [u16; 18] = [1, 0, 2, 1, 3, 0, 0, 3, 2, 2, 3, 4, 3, 1, 4, 1, 2, 4];
+
 // As wide as can be.
 const WIDE: [i32; 12] = [R, R, R, R, -R, -R, -R, R, -R, -R, -R, R];
 
@@ -145,7 +150,7 @@ fn worst_faces() {
     place(&WIDE, &faces, 30000, 30000, -30000);
 }
 
-// Against tables that are no hull: one face; a face twice; a face in line, which holds every place that is in front of no other.
+// Against tables that are no hull: one face; a face twice; a face in line, whose plane holds every place.
 fn no_hulls() {
     place(&T, &FACES[9..], 10, 10, 10);
     place(&T, &TWICE, 10, 10, 10);
@@ -153,7 +158,27 @@ fn no_hulls() {
     place(&T, &LINE, 10, 10, 10);
 }
 
-// Refusals 1, 2, 3, 6, 7, each before the next.
+// In each triangle of a flat side, on the border between them and on a corner; one triangle alone, on its border and beyond it.
+fn triangles() {
+    place(&MORE, &SIX, 3, 3, 0);
+    place(&MORE, &SIX, 9, 9, 0);
+    place(&MORE, &SIX, 5, 5, 0);
+    place(&MORE, &SIX, 10, 10, 0);
+    place(&T, &FACES[..3], 0, 5, 0);
+    place(&T, &FACES[..3], 9, 9, 0);
+}
+
+// A face in line, on an end, between the ends, past them and beside them; a face that is one point.
+fn lines() {
+    place(&T, &[1, 0, 1], 10, 0, 0);
+    place(&T, &[0, 1, 1], 7, 0, 0);
+    place(&T, &[0, 1, 0], 11, 0, 0);
+    place(&T, &[0, 1, 1], 7, 1, 0);
+    place(&T, &[3, 3, 3], 0, 0, 10);
+    place(&T, &[3, 3, 3], 0, 0, 9);
+}
+
+// Refusals 1, 2, 3, 6, 7, 17, each before the next.
 fn place_refusals() {
     let many = [0i32; TouchList::MOST * 3 + 3];
     let long = [0u16; table::MOST + 3];
@@ -167,6 +192,7 @@ fn place_refusals() {
     place(&T, &long[3..], 1, 1, 1);
     place(&T, &FACES, 1, 1, 30001);
     place(&T, &FACES, -30001, 1, 1);
+    place(&T, &FACES[..3], 30001, 0, 0);
     place(&T[..0], &FACES, 1, 1, 1);
 }
 
@@ -176,5 +202,7 @@ fn main() {
     places();
     worst_faces();
     no_hulls();
+    triangles();
+    lines();
     place_refusals();
 }

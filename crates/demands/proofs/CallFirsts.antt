@@ -15,13 +15,15 @@ use Rattle.touches.specs.declared.Point.{Point}
 use Rattle.touches.specs.declared.Refusal.{Refusal}
 use Rattle.touches.specs.Limits.{placeInRange}
 use Rattle.touches.specs.Touches.{touch, touchCount, Near}
-use Rattle.touches.specs.Refusals.{allTouchesOnOnePlane, faceTableTooSmall, noSuchFace, placeOutOfRange, because}
+use Rattle.touches.specs.Refusals.{allTouchesOnOnePlane, faceTableTooSmall, noSuchFace, placeOutOfRange, placeInNoTriangle, because}
 use Rattle.touches.specs.Check.{pick}
 use Rattle.volume.specs.Volume.{Vol}
-use Rattle.rules.specs.Faces.{Face}
+use Rattle.rules.specs.Faces.{Face, Places}
 use Rattle.rules.specs.Building.{volume}
-use Rattle.rules.specs.Placing.{Lies, outside, on, inside, lies}
+use Rattle.rules.specs.Placing.{Lies, outside, on, inside, astray, lies}
 use Rattle.rules.specs.Plumb.{Plumb, misses, touches, through, plumb}
+use Rattle.rules.specs.Demands.{Astray}
+use Rattle.rules.proofs.PlaceLaws.{lies-astray}
 use Rattle.rules.proofs.Theorems.{flat-exact, one-result}
 use Rattle.table.specs.Table.{room, facesIn, usable}
 use Rattle.planes.specs.Planes.{planeOf, goodCorners, facePlane, planed, planeReading}
@@ -58,13 +60,29 @@ same-plumb r s e = cc
 hull-never : (n : ℕ) (v : ℤ) (r : Refusal) → (Hull n v ≡ BuildRefused r) ↔ never r
 hull-never n v r = ((λ e. let z : _≡_ {A = ℕ} 0 1 = cc in omega arith), (λ u. absurd u))
 
-place-never : (l : Lies) (r : Refusal) → (placedBy l ≡ PlaceRefused r) ↔ never r
-place-never l r = (go l, (λ u. absurd u))
+pub place-never : (l : Lies) → (l ≡ astray → ⊥) → (r : Refusal) → (placedBy l ≡ PlaceRefused r) ↔ never r
+place-never l d r = (go l d, (λ u. absurd u))
   where
-    go : (l : Lies) → placedBy l ≡ PlaceRefused r → ⊥
-    go (outside f d) e = let z : _≡_ {A = ℕ} 0 1 = cc in omega arith
-    go (on f) e = let z : _≡_ {A = ℕ} 0 1 = cc in omega arith
-    go inside e = let z : _≡_ {A = ℕ} 0 1 = cc in omega arith
+    go : (l : Lies) → (l ≡ astray → ⊥) → placedBy l ≡ PlaceRefused r → ⊥
+    go (outside f d) n e = let z : _≡_ {A = ℕ} 0 1 = cc in omega arith
+    go (on f) n e = let z : _≡_ {A = ℕ} 0 1 = cc in omega arith
+    go inside n e = let z : _≡_ {A = ℕ} 0 1 = cc in omega arith
+    go astray n e = n refl
+
+is-astray : (l : Lies) → Dec (l ≡ astray)
+is-astray (outside f d) = no (λ e. let z : _≡_ {A = ℕ} 0 1 = cc in omega arith)
+is-astray (on f) = no (λ e. let z : _≡_ {A = ℕ} 0 1 = cc in omega arith)
+is-astray inside = no (λ e. let z : _≡_ {A = ℕ} 0 1 = cc in omega arith)
+is-astray astray = yes refl
+
+-- 17, where the place is astray
+astray-first : (p : Places) (h : List Face) (q : Point) (r : Refusal) → (placedBy (lies p h q) ≡ PlaceRefused r) ↔ first placeInNoTriangle (at0 (Astray p h q)) never r
+astray-first p h q = where-so PlaceRefused same-place (Astray p h q) placeInNoTriangle (placedBy (lies p h q)) never (decide (is-astray (lies p h q)))
+    (λ a. ap placedBy (lies-astray p h q .1 a)) (λ n. place-never (lies p h q) (λ e. n (lies-astray p h q .0 e)))
+  where
+    decide : Dec (lies p h q ≡ astray) → Dec (Astray p h q)
+    decide (yes e) = yes (lies-astray p h q .0 e)
+    decide (no d) = no (λ a. d (lies-astray p h q .1 a))
 
 plumb-never : (l : Plumb) (r : Refusal) → (plumbedBy l ≡ PlumbRefused r) ↔ never r
 plumb-never l r = (go l, (λ u. absurd u))
@@ -79,10 +97,11 @@ pub place-first : (cs : List ℤ) (t : List ℕ) (q : Point) (r : Refusal) → (
 place-first cs t q =
     let x = placedBy (lies (touch cs) (facesIn t) q) in
     let y = pick (placeInRange q) x (PlaceRefused (because placeOutOfRange)) in
-    let seven = first placeOutOfRange (at0 (Near q → ⊥)) never in
+    let last = first placeInNoTriangle (at0 (Astray (touch cs) (facesIn t) q)) never in
+    let seven = first placeOutOfRange (at0 (Near q → ⊥)) last in
     of-list PlaceRefused same-place cs (pick (usable (touchCount cs) t) y (PlaceRefused (because noSuchFace))) (first noSuchFace (at0 (Usable (touchCount cs) t → ⊥)) seven)
     (λ d. tested PlaceRefused same-place (table-tests cs t) noSuchFace y seven
-    (tested PlaceRefused same-place (near-tests q) placeOutOfRange x never (place-never (lies (touch cs) (facesIn t) q))))
+    (tested PlaceRefused same-place (near-tests q) placeOutOfRange x last (astray-first (touch cs) (facesIn t) q)))
 
 pub plane-first : (cs : List ℤ) (a b c : ℕ) (r : Refusal) → (planed cs a b c ≡ PlaneRefused r) ↔ planeOrder cs a b c r
 plane-first cs a b c =

@@ -1,6 +1,6 @@
 -- One refusal and those after it, for an answer type A whose refusals are told apart.
 use mathlib.Core.Path.{_≡_, refl, sym, ap, _∙_}
-use mathlib.Core.Logic.{_↔_, inl, inr}
+use mathlib.Core.Logic.{_↔_, _⊎_, inl, inr}
 use mathlib.Core.Bool.{Bool, true, false}
 use Prim.Native.Nat.{ℕ, _<_, _≤_}
 use native.Mathlib.Decide.{decLe}
@@ -33,6 +33,11 @@ module _ {E : Type 0} where
       go : (b : Bool) → (b ≡ true → E) → b ≡ false
       go true to = absurd (d (to refl))
       go false to = refl
+
+-- of `first`, where it is not this number: the later ones decide
+pub past : {A B C : Type 0} → (A → ⊥) → A ⊎ (B × C) → C
+past d (inl a) = absurd (d a)
+past d (inr u) = u .1
 
 module _ {A : Type 0} (refused : Refusal → A) (same : (r s : Refusal) → refused r ≡ refused s → r ≡ s) where
   -- number n is given where C holds

@@ -1,6 +1,6 @@
 -- Demand 3 of the calls: two accepted builds, the second with more touches at its end.
 use mathlib.Core.Path.{_≡_, refl, sym, ap, subst, _∙_}
-use mathlib.Core.Logic.{_↔_, _⊎_, inl, inr}
+use mathlib.Core.Logic.{_↔_, _⊎_, inr}
 use mathlib.Core.Bool.{Bool, true, false}
 use mathlib.Core.List.{List, _++_}
 use Prim.Native.Nat.{ℕ, _+_, _%_, _<_}
@@ -22,8 +22,8 @@ use Rattle.touches.proofs.JoinLaws.{join-count, join-second}
 use Rattle.rules.specs.Faces.{Face}
 use Rattle.rules.specs.Building.{volume}
 use Rattle.rules.specs.Placing.{outside, on, inside, lies}
-use Rattle.rules.specs.Demands.{Growth}
-use Rattle.rules.proofs.Theorems.{flat-exact, one-result, inside-stays, on-stays, lists-grow, lists-rise, lists-same}
+use Rattle.rules.specs.Demands.{OnOrInside, Growth}
+use Rattle.rules.proofs.Theorems.{flat-exact, one-result, inside-stays, lists-grow, lists-rise, lists-same}
 use Rattle.table.specs.Table.{lent, facesIn, usable}
 use Rattle.hull.specs.Build.{built}
 use Rattle.hull.specs.Place.{placedBy, placed}
@@ -31,8 +31,9 @@ use Rattle.hull.specs.declared.build.Built.the-variants.{Hull, Refused}
 use Rattle.hull.specs.declared.place.Placed.{Placed}
 use Rattle.hull.specs.declared.place.Placed.the-variants.{Outside, On, Inside, Refused as PlaceRefused}
 use Rattle.hull.proofs.Inversion.{Inverted, inverted}
-use Rattle.hull.proofs.CallLaws.{by-inside, by-on, by-outside}
+use Rattle.hull.proofs.CallLaws.{by-inside, by-outside}
 use Rattle.demands.specs.Demands.{front, place, SomeOutside, Grows}
+use Rattle.demands.proofs.PlacedLaws.{hull-within}
 use Rattle.demands.proofs.BuiltLaws.{front-is, place-is, flat-to}
 
 -- ---- a place that was not refused is in range
@@ -80,14 +81,8 @@ module _ (L M : List ℤ) {old new : List ℕ} {n m : ℕ} {v w : ℤ} {h g : Li
       second q r ∙ ap placedBy (inside-stays growth q (by-inside (lies (touch L) h q) (sym (place-is i q r) ∙ a)))
 
   on-is : (q : Point) (k : FaceNo) → place L old q ≡ On k → (place (L ++ M) new q ≡ Inside) ⊎ ((f : FaceNo) × (place (L ++ M) new q ≡ On f))
-  on-is q k a = go (on-stays growth q (k .0) (by-on (lies (touch L) h q) (sym (place-is i q r) ∙ a)))
-    where
-      r : placeInRange q ≡ true
-      r = in-range L (front L old) q a tt
-
-      go : (lies (touch (L ++ M)) grown q ≡ inside) ⊎ ((k : ℕ) × (lies (touch (L ++ M)) grown q ≡ on k)) → (place (L ++ M) new q ≡ Inside) ⊎ ((f : FaceNo) × (place (L ++ M) new q ≡ On f))
-      go (inl b) = inl (second q r ∙ ap placedBy b)
-      go (inr b) = inr (faceNo (b .0), second q r ∙ ap placedBy (b .1))
+  on-is q k a = let r = in-range L (front L old) q a tt in
+      hull-within j q r .1 (subst (λ (f : List Face). OnOrInside (touch (L ++ M)) f q) (sym is-grown) (growth .on q (hull-within i q r .0 (inr (k, a)))))
 
   sum-grown : w ≡ volume (touch (L ++ M)) grown
   sum-grown = j .sum ∙ ap (volume (touch (L ++ M))) is-grown

@@ -4,9 +4,9 @@ pub mod ListLaws
 pub mod CallFirsts
 pub mod RecordFirsts
 pub mod BuiltLaws
+pub mod PlacedLaws
 pub mod GrowLaws
 pub mod ExactLaws
 pub mod TripLaws
-pub mod PlacedLaws
 pub mod PlumbLineLaws
 pub mod Theorem

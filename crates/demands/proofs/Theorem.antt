@@ -3,7 +3,7 @@ use mathlib.Core.Path.{ap}
 use mathlib.Core.List.{_++_}
 use Rattle.laws.proofs.Exact.{plus-zero-is}
 use Rattle.touches.specs.Check.{checkedRefusal, checkedCount}
-use Rattle.touches.proofs.SoundLaws.{sound-accepted}
+use Rattle.touches.proofs.SoundLaws.{sound-accepted, near-place}
 use Rattle.hull.specs.Build.{hullOf, tableAfter}
 use Rattle.hull.specs.declared.build.Built.{Built}
 use Rattle.hull.proofs.Inversion.{inverted}
@@ -19,7 +19,7 @@ use Rattle.demands.proofs.BuiltLaws.{is-hull, flat-is}
 use Rattle.demands.proofs.GrowLaws.{grows, never-flat}
 use Rattle.demands.proofs.ExactLaws.{volume-exact, planes-exact, readings-exact}
 use Rattle.demands.proofs.TripLaws.{trip-list, trip-record}
-use Rattle.demands.proofs.PlacedLaws.{placings}
+use Rattle.demands.proofs.PlacedLaws.{placings, astray-on, hull-answers}
 use Rattle.demands.proofs.PlumbLineLaws.{plumb-line}
 
 pub demands : Demands
@@ -49,5 +49,7 @@ demands = record {
   readings = readings-exact;
   plus-zero = plus-zero-is;
   placings = placings;
+  astray-on = astray-on;
+  never-astray = λ cs old n v e q near. hull-answers (inverted cs old e .1) q (near-place q near);
   plumb-line = λ cs old n v x y e hx hy. plumb-line (inverted cs old e .1) x y hx hy;
 }

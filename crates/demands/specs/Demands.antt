@@ -3,7 +3,7 @@
 use mathlib.Core.Path.{_≡_}
 use mathlib.Core.Logic.{_↔_, _⊎_, _≢_}
 use mathlib.Core.Bool.{false}
-use mathlib.Core.List.{List, _++_}
+use mathlib.Core.List.{List, [], _++_}
 use mathlib.Core.Option.{Option, none, some}
 use Prim.Native.Nat.{ℕ, _+_, _-_, _*_, _%_, _<_, _≤_}
 use lib.IntN.{ℤ, pos, negℤ}
@@ -19,12 +19,13 @@ use Rattle.touches.specs.declared.Refusal.{Refusal}
 use Rattle.touches.specs.declared.Checked.the-variants.{Refused as CheckRefused}
 use Rattle.touches.specs.Limits.{mostTouches, mostFaces, reach}
 use Rattle.touches.specs.Touches.{touch, touchCount, Near, Sound, FirstStray}
-use Rattle.touches.specs.Refusals.{coordinatesNotInThrees, tooManyTouches, coordinateOutOfRange, allTouchesOnOnePlane, faceTableTooSmall, noSuchFace, placeOutOfRange, recordLengthWrong, recordVersionUnknown, recordTouchCutShort, touchRoomTooSmall, recordRoomTooSmall, because, noRefusal}
+use Rattle.touches.specs.Refusals.{coordinatesNotInThrees, tooManyTouches, coordinateOutOfRange, allTouchesOnOnePlane, faceTableTooSmall, noSuchFace, placeOutOfRange, placeInNoTriangle, recordLengthWrong, recordVersionUnknown, recordTouchCutShort, touchRoomTooSmall, recordRoomTooSmall, because, noRefusal}
 use Rattle.touches.specs.Check.{checked, checkedRefusal, checkedCount}
 use Rattle.volume.specs.Volume.{Vol, normal, offset, inLine}
+use Rattle.volume.specs.Triangle.{Mixture}
 use Rattle.rules.specs.Faces.{Face, corner}
 use Rattle.rules.specs.Building.{volume}
-use Rattle.rules.specs.Demands.{Flat, Closed, FaceOf, OnOrInside, OnPlane, Inside as BehindAll, Outside as InFrontOfSome, Worst, Case, outsideCase, onCase, insideCase, caseBefore}
+use Rattle.rules.specs.Demands.{Flat, Closed, FaceOf, OnOrInside, Inside as BehindAll, Outside as InFrontOfSome, Worst, FirstHolding, Astray, Case, outsideCase, onCase, insideCase, caseBefore}
 use Rattle.rules.specs.Plumb.{Fraction}
 use Rattle.rules.specs.Heights.{over, whole, AtMost, Below, Equal, NoneRefuses, Spans}
 use Rattle.table.specs.Table.{stride, room, firstFaces, facesIn}
@@ -104,9 +105,12 @@ listOrder cs later = first coordinatesNotInThrees (at0 (length cs % 3 ≢ 0)) (f
 abbrev pub buildOrder : List ℤ → List ℕ → Refusal → Type 0
 buildOrder cs old = listOrder cs (first allTouchesOnOnePlane (at0 (AllFlat cs)) (first faceTableTooSmall (at0 (NoRoom cs old)) never))
 
--- 1, 2, 3, 6, 7
+-- 1, 2, 3, 6, 7, 17
 abbrev pub placeOrder : List ℤ → List ℕ → Point → Refusal → Type 0
-placeOrder cs t q = listOrder cs (first noSuchFace (at0 (Usable (touchCount cs) t → ⊥)) (first placeOutOfRange (at0 (Near q → ⊥)) never))
+placeOrder cs t q =
+    listOrder cs (first noSuchFace (at0 (Usable (touchCount cs) t → ⊥))
+    (first placeOutOfRange (at0 (Near q → ⊥))
+    (first placeInNoTriangle (at0 (Astray (touch cs) (facesIn t) q)) never)))
 
 -- 1, 2, 3, 6
 abbrev pub planeOrder : List ℤ → ℕ → ℕ → ℕ → Refusal → Type 0
@@ -221,7 +225,7 @@ pub record ExactPlane (a b c : Point) (p : Plane) : Type 0 where
   pub z : Exactly (p .z) (normal a b c .z)
   pub offset : Exactly (p .offset) (offset a b c)
 
--- ==== 02 A7: placing answered a, no refusal, against any table, hull or not
+-- ==== 02 A5 and A7: placing answered a, no refusal, against any table, hull or not
 -- 01's case of an answer
 abbrev pub caseAnswered : Placed → Option Case
 caseAnswered (Outside f d) = some outsideCase
@@ -230,11 +234,13 @@ caseAnswered Inside = some insideCase
 caseAnswered (PlaceRefused r) = none
 
 pub record IsPlaced (cs : List ℤ) (t : List ℕ) (q : Point) (a : Placed) : Type 0 where
-  -- outside exactly if some face has V < 0; on exactly if none has and some has V = 0; inside exactly if every face has V > 0
+  -- outside exactly if some face has V < 0, inside exactly if every face has V > 0
   pub outside : ((f : FaceNo) × (d : ℤ) × (a ≡ Outside f d)) ↔ InFrontOfSome (touch cs) (facesIn t) q
-  pub on : ((f : FaceNo) × (a ≡ On f)) ↔ (OnOrInside (touch cs) (facesIn t) q × OnPlane (touch cs) (facesIn t) q)
   pub inside : (a ≡ Inside) ↔ BehindAll (touch cs) (facesIn t) q
-  -- so the places are those of 01's three cases
+  -- on names the first face whose plane holds q and whose triangle contains it: q is a mixture of its corners
+  pub on : (f : FaceNo) → (a ≡ On f) ↔ (OnOrInside (touch cs) (facesIn t) q × FirstHolding (touch cs) (facesIn t) q (f .0))
+  pub contained : (f : FaceNo) → a ≡ On f → let g = getD (facesIn t) (f .0) [] in Mixture (touch cs (corner g 0)) (touch cs (corner g 1)) (touch cs (corner g 2)) q
+  -- the places are those of 01's three cases
   pub as-before : caseAnswered a ≡ some (caseBefore (touch cs) (facesIn t) q)
   -- outside names the face with the least V, the first of equals, and gives minus that V
   pub worst : (f : FaceNo) (d : ℤ) → (a ≡ Outside f d) ↔ (Worst (touch cs) (facesIn t) q (f .0) (negℤ d) × (pos 0 <ℤ d))
@@ -298,7 +304,11 @@ pub record Demands : Type 0 where
   pub planes : (cs : List ℤ) (a b c : ℕ) (p : Plane) → planed cs a b c ≡ Of p → ExactPlane (touch cs a) (touch cs b) (touch cs c) p
   pub readings : (cs : List ℤ) (a b c : ℕ) (q : Point) (x : Float) → planeReading cs a b c q ≡ Reads x → Exactly x (negℤ (Vol (touch cs a) (touch cs b) (touch cs c) q))
   pub plus-zero : plusZero ≡ double (pos 0)
-  -- 02 A7: what placing says, where it does not refuse
+  -- 02 A5 and A7: what placing says, where it does not refuse
   pub placings : (cs : List ℤ) (t : List ℕ) (q : Point) → ((r : Refusal) → placed cs t q ≡ PlaceRefused r → ⊥) → IsPlaced cs t q (placed cs t q)
+  -- 02 A5: what is refused 17 was on by 01's three cases
+  pub astray-on : (cs : List ℤ) (t : List ℕ) (q : Point) → placed cs t q ≡ PlaceRefused (because placeInNoTriangle) → caseBefore (touch cs) (facesIn t) q ≡ onCase
+  -- against what building wrote no place in range is refused
+  pub never-astray : (cs : List ℤ) (old : List ℕ) (n : ℕ) (v : ℤ) → built cs old ≡ Hull n v → (q : Point) → Near q → (r : Refusal) → place cs old q ≡ PlaceRefused r → ⊥
   -- 02 A3: what a plumb line says, of a list that building accepts, at x and y in range
   pub plumb-line : (cs : List ℤ) (old : List ℕ) (n : ℕ) (v x y : ℤ) → built cs old ≡ Hull n v → InRange x → InRange y → PlumbLine cs old (triangles cs old) x y (plumbed cs x y)

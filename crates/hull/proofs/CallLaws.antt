@@ -16,7 +16,7 @@ use Rattle.touches.specs.Touches.{touch, touchCount, faceNo, Sound}
 use Rattle.touches.proofs.SoundLaws.{sound-accepted}
 use Rattle.rules.specs.Faces.{Face, Places}
 use Rattle.rules.specs.Building.{volume}
-use Rattle.rules.specs.Placing.{Lies, outside, on, inside, lies}
+use Rattle.rules.specs.Placing.{Lies, outside, on, inside, astray, lies}
 use Rattle.rules.specs.Demands.{FaceOf}
 use Rattle.rules.proofs.Theorems.{hull-surface}
 use Rattle.table.specs.Table.{lent, firstFaces, facesIn, usable}
@@ -56,13 +56,16 @@ pub by-inside : (l : Lies) → placedBy l ≡ Inside → l ≡ inside
 by-inside (outside f d) e = let z : _≡_ {A = ℕ} 0 1 = cc in absurd (omega arith)
 by-inside (on f) e = let z : _≡_ {A = ℕ} 0 1 = cc in absurd (omega arith)
 by-inside inside e = refl
+by-inside astray e = let z : _≡_ {A = ℕ} 0 1 = cc in absurd (omega arith)
 
 pub by-on : (l : Lies) {f : FaceNo} → placedBy l ≡ On f → l ≡ on (f .0)
 by-on (outside g d) {f} e = let z : _≡_ {A = ℕ} 0 1 = cc in absurd (omega arith)
 by-on (on g) {f} e = let t : faceNo g ≡ f = cc in ap (λ (x : FaceNo). on (x .0)) t
 by-on inside {f} e = let z : _≡_ {A = ℕ} 0 1 = cc in absurd (omega arith)
+by-on astray {f} e = let z : _≡_ {A = ℕ} 0 1 = cc in absurd (omega arith)
 
 pub by-outside : (l : Lies) {f : FaceNo} {d : ℤ} → placedBy l ≡ Outside f d → l ≡ outside (f .0) d
 by-outside (outside g c) {f} {d} e = let t : faceNo g ≡ f = cc in let s : c ≡ d = cc in λ i. outside (t i .0) (s i)
 by-outside (on g) {f} {d} e = let z : _≡_ {A = ℕ} 0 1 = cc in absurd (omega arith)
 by-outside inside {f} {d} e = let z : _≡_ {A = ℕ} 0 1 = cc in absurd (omega arith)
+by-outside astray {f} {d} e = let z : _≡_ {A = ℕ} 0 1 = cc in absurd (omega arith)

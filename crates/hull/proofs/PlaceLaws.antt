@@ -1,18 +1,21 @@
 -- Looking at a table's faces one after the other: the worst, the first of a kind, and what is settled.
-use mathlib.Core.Path.{_≡_, refl, sym, ap, ap₂, _∙_}
+use mathlib.Core.Path.{_≡_, refl, sym, ap, ap₂, subst, _∙_}
 use mathlib.Core.Logic.{_⊎_, inl, inr, _≢_}
-use mathlib.Core.Bool.{Bool, true, false}
+use mathlib.Core.Bool.{Bool, true, false, _&&_}
 use mathlib.Core.List.{List, []}
 use mathlib.Core.Option.{Option, none, some}
 use Prim.Native.Nat.{ℕ, _+_, _<_, _≤_}
 use native.Mathlib.Omega.{arith}
+use lib.Dec.{T, eqb}
 use lib.IntN.{ℤ, pos, negℤ, negℤ-negℤ}
 use lib.Signed.{_≤ℤ_, _<ℤ_, ltZ, <ℤ-irrefl}
 use lib.ListN.{drop, getD}
+use mir.Syntax.{w64}
+use mir.Val.{ofZ}
 use Rattle.laws.specs.Numbers.{Within}
 use Rattle.laws.specs.Lists.{firstFrom}
 use Rattle.laws.proofs.Tests.{same-or}
-use Rattle.laws.proofs.Order.{≤-refl, ≤-trans, <-≤-trans, <→≤, ≡→≤, neg-pos, lt-true, lt-false}
+use Rattle.laws.proofs.Order.{≤-refl, ≤-trans, <-≤-trans, <→≤, ≡→≤, neg-pos, lt-true, lt-false, eqZ→eq}
 use Rattle.laws.proofs.Members.{in-getD}
 use Rattle.laws.proofs.Turns.{first-turn, first-none-left}
 use Rattle.touches.specs.declared.FaceNo.{FaceNo}
@@ -26,13 +29,15 @@ use Rattle.touches.specs.Touches.{touch, touchCount, faceNo}
 use Rattle.touches.specs.Refusals.{noSuchFace, placeOutOfRange, because}
 use Rattle.touches.specs.Check.{pick, checked, ifAccepted}
 use Rattle.volume.specs.Volume.{mostVolume, isZero}
-use Rattle.rules.specs.Faces.{Face, faceVol}
-use Rattle.rules.specs.Placing.{outside, firstHolding, notOutside, lies}
+use Rattle.volume.specs.Triangle.{contains}
+use Rattle.rules.specs.Faces.{Face, Places, corner, faceVol}
+use Rattle.rules.specs.Placing.{outside, holds, firstHolding, firstPlane, notOutside, lies}
 use Rattle.rules.specs.Demands.{OnOrInside, Worst as IsWorst}
 use Rattle.rules.proofs.PlaceLaws.{lies-worst, lies-behind}
 use Rattle.table.specs.Table.{room, faceAt, facesIn, usable}
 use Rattle.table.proofs.TableLaws.{length-faces, face-at}
-use Rattle.points.proofs.NumberLaws.{rd, passed}
+use Rattle.points.specs.Sizes.{Number}
+use Rattle.points.proofs.NumberLaws.{rd, passed, zero-test}
 use Rattle.hull.specs.Inner.{worse, earlier, settledBehind, settled}
 use Rattle.hull.specs.Place.{placedBy, placed}
 use Rattle.hull.specs.declared.place.Worst.{Worst}
@@ -126,8 +131,22 @@ module _ {t : List ℕ} {g : Face → ℤ} {i : ℕ} {w : Worst} (k : Worsened t
 pub worse-is : (w : Worst) (f : FaceNo) {v : ℤ} → Within mostVolume (w .v) × Within mostVolume v → {b : Bool} → ltZ (rd v) (rd (w .v)) ≡ b → pick b (record { face = f; v = v }) w ≡ worse w f v
 worse-is w f {v} h t = sym (ap (λ (b : Bool). pick b (record { face = f; v = v }) w) (ap₂ ltZ (sym (passed tt (h .1))) (sym (passed tt (h .0))) ∙ t))
 
-pub settled-by : (w : Worst) {o x : First} → Within mostVolume (w .v) → {b : Bool} → ltZ (rd (w .v)) (pos 0) ≡ b → o ≡ x → pick b (Outside (w .face) (negℤ (w .v))) (settledBehind x) ≡ settled w o
-settled-by w h t e = sym (ap₂ (λ (b : Bool) (o : First). pick b (Outside (w .face) (negℤ (w .v))) (settledBehind o)) (ap (λ (z : ℤ). ltZ z (pos 0)) (sym (passed tt h)) ∙ t) e)
+pub settled-by : (w : Worst) {o x e y : First} → Within mostVolume (w .v) → {b : Bool} → ltZ (rd (w .v)) (pos 0) ≡ b → o ≡ x → e ≡ y → pick b (Outside (w .face) (negℤ (w .v))) (settledBehind x y) ≡ settled w o e
+settled-by w {o} {x} {e} {y} h {b} t f g =
+    sym (ap (λ (b : Bool). pick b (Outside (w .face) (negℤ (w .v))) (settledBehind o e)) (ap (λ (z : ℤ). ltZ z (pos 0)) (sym (passed tt h)) ∙ t)
+    ∙ ap₂ (λ (o e : First). pick b (Outside (w .face) (negℤ (w .v))) (settledBehind o e)) f g)
+
+-- a face holds q only where V is 0, and then by its triangle
+module _ (p : Places) (f : Face) (q : Point) {v : ℤ} (n : Number mostVolume (faceVol p f q) v) {b : Bool} (t : eqb (ofZ w64 v) 0 ≡ b) where
+  flat-is : isZero (faceVol p f q) ≡ b
+  flat-is = ap isZero (sym (n .is)) ∙ sym (zero-test tt (n .small)) ∙ t
+
+  pub flat-zero : b ≡ true → faceVol p f q ≡ pos 0
+  flat-zero e = eqZ→eq (faceVol p f q) (pos 0) (subst T (sym (flat-is ∙ e)) tt)
+
+  pub holds-by : b && contains (p (corner f 0)) (p (corner f 1)) (p (corner f 2)) q ≡ holds p f q
+  unfolding holds
+  holds-by = sym (ap (λ (z : Bool). z && contains (p (corner f 0)) (p (corner f 1)) (p (corner f 2)) q) flat-is)
 
 -- ---- all faces looked at
 module _ (cs : List ℤ) (q : Point) where
@@ -135,7 +154,10 @@ module _ (cs : List ℤ) (q : Point) where
   against f = faceVol (touch cs) f q
 
   abbrev pub holding : Face → Bool
-  holding f = isZero (faceVol (touch cs) f q)
+  holding f = holds (touch cs) f q
+
+  abbrev pub flat : Face → Bool
+  flat f = isZero (faceVol (touch cs) f q)
 
   module _ {t : List ℕ} {i : ℕ} (h : room t ≤ i) {w : Worst} (k : Worsened t against i w) where
     -- face number j of the table is that of its list
@@ -156,17 +178,20 @@ module _ (cs : List ℤ) (q : Point) where
     behind : pos 0 ≤ℤ w .v → OnOrInside (touch cs) (facesIn t) q
     behind n f m = let u = in-getD (facesIn t) [] m in let b : u .0 < room t = omega (arith, length-faces t, u .1) in rw (sym (u .2), face-is (u .0) b) (≤-trans n (k .least (u .0) (omega arith)))
 
-  pub settled-is : (t : List ℕ) {i : ℕ} {w : Worst} {o : First} → Worsened t against i w → Looked t holding i o → room t ≤ i → settled w o ≡ placedBy (lies (touch cs) (facesIn t) q)
-  unfolding firstHolding
-  settled-is t {i} {w} {o} k l h = go (ltZ (w .v) (pos 0)) refl
+  pub settled-is : (t : List ℕ) {i : ℕ} {w : Worst} {o e : First} → Worsened t against i w → Looked t holding i o → Looked t flat i e → room t ≤ i → settled w o e ≡ placedBy (lies (touch cs) (facesIn t) q)
+  unfolding firstHolding firstPlane
+  settled-is t {i} {w} {o} {e} k l m h = go (ltZ (w .v) (pos 0)) refl
     where
-      on : (o : First) → settledBehind o ≡ placedBy (notOutside (orElse o none))
-      on (At f) = refl
-      on Nowhere = refl
+      rest : (o e : First) → settledBehind o e ≡ placedBy (notOutside (orElse o none) (orElse e none))
+      rest (At f) e = refl
+      rest Nowhere (At f) = refl
+      rest Nowhere Nowhere = refl
 
-      go : (b : Bool) → ltZ (w .v) (pos 0) ≡ b → pick b (Outside (w .face) (negℤ (w .v))) (settledBehind o) ≡ placedBy (lies (touch cs) (facesIn t) q)
-      go true e = ap placedBy (sym (in-front h k (lt-true e)))
-      go false e = on o ∙ ap (λ (x : Option ℕ). placedBy (notOutside x)) (sym (looked-all l h)) ∙ sym (ap placedBy (lies-behind (touch cs) (facesIn t) q (behind h k (lt-false e))))
+      go : (b : Bool) → ltZ (w .v) (pos 0) ≡ b → pick b (Outside (w .face) (negℤ (w .v))) (settledBehind o e) ≡ placedBy (lies (touch cs) (facesIn t) q)
+      go true u = ap placedBy (sym (in-front h k (lt-true u)))
+      go false u =
+          rest o e ∙ ap₂ (λ (x y : Option ℕ). placedBy (notOutside x y)) (sym (looked-all l h)) (sym (looked-all m h))
+          ∙ sym (ap placedBy (lies-behind (touch cs) (facesIn t) q (behind h k (lt-false u))))
 
 -- ---- the answer by what the three tests gave
 placed-is : (cs : List ℤ) (t : List ℕ) (q : Point) {k : Checked} {b d : Bool} → checked cs ≡ k → usable (touchCount cs) t ≡ b → placeInRange q ≡ d

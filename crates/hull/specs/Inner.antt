@@ -12,6 +12,7 @@ use Rattle.touches.specs.declared.Point.{Point}
 use Rattle.touches.specs.declared.FaceNo.{FaceNo}
 use Rattle.touches.specs.Limits.{mostFaces}
 use Rattle.touches.specs.Touches.{touchCount, touch, Sound}
+use Rattle.touches.specs.Refusals.{placeInNoTriangle, because}
 use Rattle.touches.specs.Check.{pick}
 use Rattle.rules.specs.Faces.{Face, faceVol}
 use Rattle.rules.specs.Start.{Start, start}
@@ -28,7 +29,7 @@ use Rattle.hull.specs.declared.place.Worst.{Worst}
 use Rattle.hull.specs.declared.place.First.{First}
 use Rattle.hull.specs.declared.place.First.the-variants.{Nowhere, At}
 use Rattle.hull.specs.declared.place.Placed.{Placed}
-use Rattle.hull.specs.declared.place.Placed.the-variants.{Outside, On, Inside}
+use Rattle.hull.specs.declared.place.Placed.the-variants.{Outside, On, Inside, Refused}
 
 -- q is strictly in front of face f
 abbrev pub inFront : List ℤ → Point → Face → Bool
@@ -88,10 +89,11 @@ abbrev pub earlier : First → FaceNo → Bool → First
 earlier Nowhere f b = pick b (At f) Nowhere
 earlier (At g) f b = At g
 
--- a face in front comes before one whose plane holds the place
-abbrev pub settledBehind : First → Placed
-settledBehind (At g) = On g
-settledBehind Nowhere = Inside
+-- a face in front comes before one that holds the place, and that before one whose plane does
+abbrev pub settledBehind : First → First → Placed
+settledBehind (At g) e = On g
+settledBehind Nowhere (At g) = Refused (because placeInNoTriangle)
+settledBehind Nowhere Nowhere = Inside
 
-abbrev pub settled : Worst → First → Placed
-settled w o = pick (ltZ (w .v) (pos 0)) (Outside (w .face) (negℤ (w .v))) (settledBehind o)
+abbrev pub settled : Worst → First → First → Placed
+settled w o e = pick (ltZ (w .v) (pos 0)) (Outside (w .face) (negℤ (w .v))) (settledBehind o e)

@@ -1,4 +1,4 @@
--- 01 'Where a place lies' and 02 A7: what the call gives.
+-- 01 'Where a place lies', 02 A5 and A7: what the call gives.
 use mathlib.Core.List.{List}
 use Prim.Native.Nat.{ℕ}
 use lib.IntN.{ℤ, pos}
@@ -7,9 +7,9 @@ use Rattle.touches.specs.declared.Point.{Point}
 use Rattle.touches.specs.declared.Refusal.{Refusal}
 use Rattle.touches.specs.Limits.{placeInRange}
 use Rattle.touches.specs.Touches.{touch, touchCount, faceNo}
-use Rattle.touches.specs.Refusals.{noSuchFace, placeOutOfRange, because, noRefusal}
+use Rattle.touches.specs.Refusals.{noSuchFace, placeOutOfRange, placeInNoTriangle, because, noRefusal}
 use Rattle.touches.specs.Check.{pick, checked, ifAccepted}
-use Rattle.rules.specs.Placing.{Lies, outside, on, inside, lies}
+use Rattle.rules.specs.Placing.{Lies, outside, on, inside, astray, lies}
 use Rattle.table.specs.Table.{facesIn, usable}
 use Rattle.hull.specs.declared.place.Placed.{Placed}
 use Rattle.hull.specs.declared.place.Placed.the-variants.{Outside, On, Inside, Refused}
@@ -18,8 +18,9 @@ abbrev pub placedBy : Lies → Placed
 placedBy (outside f d) = Outside (faceNo f) d
 placedBy (on f) = On (faceNo f)
 placedBy inside = Inside
+placedBy astray = Refused (because placeInNoTriangle)
 
--- refusals 1, 2, 3, 6, 7; else where q lies against the faces of the table
+-- refusals 1, 2, 3, 6, 7; else where q lies against the faces of the table, 17 where it is astray
 abbrev pub placed : List ℤ → List ℕ → Point → Placed
 placed cs t q =
     ifAccepted (checked cs) Refused

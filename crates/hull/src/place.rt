@@ -1,4 +1,5 @@
 // Where a place lies against a face table, hull or not.
+use crate::face::face_holds;
 use crate::face::face_volume;
 use touches::Checked;
 use touches::FaceNo;
@@ -60,10 +61,10 @@ fn earlier(first: First, f: FaceNo, here: bool) -> First
     }
 }
 
-// A face that the place is in front of comes before one whose plane holds it.
-fn settle(w: Worst, on: First) -> Placed
+// A face that the place is in front of comes before one that holds it, and that before one whose plane does.
+fn settle(w: Worst, on: First, plane: First) -> Placed
     requires { ⌜ Within mostVolume (w .v) ⌝ }
-    ensures { λ r. ⌜ r ≡ settled w on ⌝ }
+    ensures { λ r. ⌜ r ≡ settled w on plane ⌝ }
 {
     let f = w.face;
     if w.v < 0 {
@@ -71,7 +72,10 @@ fn settle(w: Worst, on: First) -> Placed
     }
     match on {
         First::At(g) => Placed::On(g),
-        First::Nowhere => Placed::Inside,
+        First::Nowhere => match plane {
+            First::At(_) => Placed::Refused(Refusal::because(Refusal::PLACE_IN_NO_TRIANGLE)),
+            First::Nowhere => Placed::Inside,
+        },
     }
 }
 
@@ -85,18 +89,21 @@ fn look(coords: &[i32], faces: &[u16], q: Point) -> Placed
         v: 0,
     };
     let mut on = First::Nowhere;
+    let mut plane = First::Nowhere;
     let mut i: usize = 0;
     while i < n {
         let f = FaceNo(i as u16);
-        let v = face_volume(coords, table::face(faces, f), q);
+        let c = table::face(faces, f);
+        let v = face_volume(coords, c, q);
         w = worse(w, f, v);
-        on = earlier(on, f, v == 0);
+        on = earlier(on, f, face_holds(coords, c, q, v));
+        plane = earlier(plane, f, v == 0);
         i += 1;
     }
-    settle(w, on)
+    settle(w, on, plane)
 }
 
-// Refusals 1, 2, 3, 6, 7.
+// Refusals 1, 2, 3, 6, 7, 17.
 pub fn place(coords: &[i32], faces: &[u16], q: Point) -> Placed
     ensures { λ r. ⌜ r ≡ placed (now (coords .entry)) (now (faces .entry)) q ⌝ }
 {

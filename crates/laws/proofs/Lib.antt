@@ -8,6 +8,7 @@ pub mod Words
 pub mod Doubles
 pub mod Exact
 pub mod Members
+pub mod Signs
 pub mod Sums
 pub mod Tables
 pub mod Firsts

@@ -2,7 +2,7 @@
 use mathlib.Core.Path.{_≡_, refl, sym, _∙_, ap, ap₂, subst}
 use mathlib.Core.Logic.{_≢_, _⊎_, inl, inr}
 use mathlib.Core.Bool.{Bool, true, false, not, _||_, or-assoc}
-use mathlib.Core.List.{List, [], _∷_, _++_, map, List·Memᴰ·head, List·Memᴰ·tail, List·Memᴰ·cases-cons, List·Memᴰ·not-nil}
+use mathlib.Core.List.{List, [], _∷_, _++_, map, flatMap, List·Memᴰ·head, List·Memᴰ·tail, List·Memᴰ·cases-cons, List·Memᴰ·not-nil}
 use Prim.Native.Nat.{ℕ, zero, suc, _<_, _≤_}
 use native.Mathlib.Omega.{arith}
 use lib.Dec.{T, T-not, not-T}
@@ -146,6 +146,19 @@ pub keep-ext : {A : Type 0} (q r : A → Bool) (l : List A) → ((y : A) → In 
 keep-ext q r [] h = refl
 keep-ext q r (x ∷ l) h = ap₂ (λ (b : Bool) m. put b x m) (h x (here refl)) (keep-ext q r l (λ y m. h y (there m)))
 
+-- ---- what holds of the first and of each later one holds of each
+pub cons-each : {A : Type 0} (P : A → Type 0) {x : A} {l : List A} → P x → ((y : A) → In y l → P y) → (y : A) → In y (x ∷ l) → P y
+cons-each {A} P {x} {l} h r y m = go (List·Memᴰ·cases-cons m)
+  where
+    go : (y ≡ x) ⊎ In y l → P y
+    go (inl e) = subst P (sym e) h
+    go (inr n) = r y n
+
+pub flatMap-in : {A B : Type 0} (g : A → List B) (l : List A) {x : A} {y : B} → In x l → In y (g x) → In y (flatMap g l)
+unfolding flatMap
+flatMap-in g [] m i = absurd (List·Memᴰ·not-nil m)
+flatMap-in {A} g (a ∷ l) {x} {y} m i = cons-each (λ (z : A). In y (g z) → In y (flatMap g (a ∷ l))) (append-l (flatMap g l)) (λ z n j. append-r (g a) (flatMap-in g l n j)) x m i
+
 -- ---- what holds of each of a list that is written out
 abbrev pub All : {A : Type 0} → (A → Type 0) → List A → Type 0
 All P [] = Unit {0}
@@ -153,11 +166,7 @@ All P (x ∷ l) = P x × All P l
 
 pub all→ : {A : Type 0} (P : A → Type 0) (l : List A) → All P l → (x : A) → In x l → P x
 all→ P [] h x m = absurd (List·Memᴰ·not-nil m)
-all→ {A} P (a ∷ l) h x m = go (λ n. all→ P l (h .1) x n) (List·Memᴰ·cases-cons m)
-  where
-    go : (In x l → P x) → (x ≡ a) ⊎ In x l → P x
-    go r (inl e) = subst P (sym e) (h .0)
-    go r (inr n) = r n
+all→ P (a ∷ l) h x m = cons-each P (h .0) (all→ P l (h .1)) x m
 
 -- ---- one member with a property, or none
 pub find : {A : Type 0} (q : A → Bool) (l : List A) → ((x : A) × In x l × T (q x)) ⊎ ((x : A) → In x l → T (not (q x)))

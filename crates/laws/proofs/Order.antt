@@ -1,6 +1,6 @@
 -- The order of ℤ, through omega: each statement on ℤ is read as one on the naturals up z and dn z (z is up z − dn z).
 use mathlib.Core.Path.{_≡_, refl, sym, _∙_, ap, subst}
-use mathlib.Core.Logic.{_⊎_, inl, inr}
+use mathlib.Core.Logic.{_≢_, _⊎_, inl, inr}
 use Prim.Native.Nat.{ℕ, zero, suc, _+_, _*_, _-_, _<_, _≤_}
 use native.Mathlib.Nat.{mul-pos}
 use native.Mathlib.Omega.{arith}
@@ -95,6 +95,18 @@ antisymm {a} {b} h k = omega (arith, zs)
 pub pos-mono : {m n : ℕ} → m < n → pos m <ℤ pos n
 pos-mono {m} {n} h = omega (arith, zs, pos-is m, pos-is n)
 
+pub suc-pos : (n : ℕ) → pos 0 <ℤ pos (suc n)
+suc-pos n = pos-mono (omega arith)
+
+pub negsuc-neg : (n : ℕ) → negsuc n <ℤ pos 0
+negsuc-neg n = record { lt = tt }
+
+pub pos-ne : {a : ℤ} → pos 0 <ℤ a → a ≢ pos 0
+pos-ne h e = <ℤ-irrefl (subst (λ (z : ℤ). pos 0 <ℤ z) e h)
+
+pub neg-ne : {a : ℤ} → a <ℤ pos 0 → a ≢ pos 0
+neg-ne h e = <ℤ-irrefl (subst (λ (z : ℤ). z <ℤ pos 0) e h)
+
 pub nat-not-neg : (n : ℕ) → pos n <ℤ pos 0 → ⊥
 nat-not-neg n h = omega (arith, zs, pos-is n, pos-is 0)
 
@@ -146,8 +158,8 @@ pub data Sign (z : ℤ) : Type 0 where
 
 pub sign : (z : ℤ) → Sign z
 sign (pos zero) = null refl
-sign (pos (suc n)) = plus (record { lt = lt→ltb 0 (suc n) (omega arith) })
-sign (negsuc n) = minus (record { lt = tt })
+sign (pos (suc n)) = plus (suc-pos n)
+sign (negsuc n) = minus (negsuc-neg n)
 
 -- ---- products
 pub mul-nonneg : {a b : ℤ} → pos 0 ≤ℤ a → pos 0 ≤ℤ b → pos 0 ≤ℤ (a *ℤ b)
@@ -201,6 +213,13 @@ mul-zero a b e = go (sign a) (sign b)
     go (plus h) (null q) = inr q
     go (plus h) (minus k) = absurd (no-neg (mul-pos-neg h k))
     go (plus h) (plus k) = absurd (no-pos (mul-pos-pos h k))
+
+pub cancel-zero : {w x : ℤ} → pos 0 <ℤ w → w *ℤ x ≡ pos 0 → x ≡ pos 0
+cancel-zero {w} {x} h e = go (mul-zero w x e)
+  where
+    go : (w ≡ pos 0) ⊎ (x ≡ pos 0) → x ≡ pos 0
+    go (inl z) = absurd (pos-ne h z)
+    go (inr z) = z
 
 -- ---- what a machine comparison tells
 pub lt-true : {a b : ℤ} → ltZ a b ≡ true → a <ℤ b

@@ -8,12 +8,12 @@ use native.Mathlib.Omega.{arith}
 use lib.ListN.{length}
 use lib.Dec.{T, T-not, not-T}
 use lib.IntN.{ℤ, pos, negℤ, _+ℤ_, +ℤ-idr, +ℤ-idl, +ℤ-assoc, negℤ-+ℤ}
-use lib.Signed.{_≤ℤ_, _<ℤ_}
+use lib.Signed.{_≤ℤ_, _<ℤ_, <ℤ-irrefl}
 use Rattle.laws.specs.Numbers.{Within}
 use Rattle.laws.specs.Lists.{In, put, keep, has, Nodup, sumZ}
 use Rattle.laws.proofs.Tests.{not-not, →not-not}
 use Rattle.laws.proofs.Integers.{up-neg, dn-neg, sum-is, +ℤ-left-comm, +ℤ-swap}
-use Rattle.laws.proofs.Order.{zs, pos-is, ≤-refl, add-nonneg, add-pos}
+use Rattle.laws.proofs.Order.{zs, pos-is, ≤-refl, add-nonneg, add-pos, below-or}
 use Rattle.laws.proofs.WithinLaws.{within-add}
 use Rattle.laws.proofs.Members.{here, there, in-keep, keep-in, keep-all, Pw-keep, in-map, map-in, nodup-map, has→, →has, apart, apart→}
 
@@ -43,6 +43,18 @@ sum-pos {A} g (x ∷ l) h {y} m k = go (λ n. sum-pos g l (λ z i. h z (there i)
     go : (In y l → pos 0 <ℤ sumZ g l) → (y ≡ x) ⊎ In y l → pos 0 <ℤ (g x +ℤ sumZ g l)
     go r (inl e) = add-pos (subst (λ (z : A). pos 0 <ℤ g z) e k) (sum-nonneg g l (λ z i. h z (there i)))
     go r (inr n) = flip-pos (h x (here refl)) (r n)
+
+-- a sum above 0 has a term above 0
+pub some-pos : {A : Type 0} (g : A → ℤ) (l : List A) → pos 0 <ℤ sumZ g l → (x : A) × In x l × (pos 0 <ℤ g x)
+some-pos g [] h = absurd (<ℤ-irrefl h)
+some-pos {A} g (x ∷ l) h = go (some-pos g l) (below-or (g x) (pos 0))
+  where
+    rest : g x ≤ℤ pos 0 → pos 0 <ℤ sumZ g l
+    rest k = omega (arith, zs, sum-is (g x) (sumZ g l), pos-is 0)
+
+    go : (pos 0 <ℤ sumZ g l → (y : A) × In y l × (pos 0 <ℤ g y)) → (g x ≤ℤ pos 0) ⊎ (pos 0 <ℤ g x) → (y : A) × In y (x ∷ l) × (pos 0 <ℤ g y)
+    go r (inl k) = let t = r (rest k) in (t .0, there (t .1), t .2)
+    go r (inr k) = (x, here refl, k)
 
 -- how large a sum can be
 pub sum-within : {A : Type 0} {B : ℕ} (g : A → ℤ) (l : List A) → ((x : A) → In x l → Within B (g x)) → Within (length l * B) (sumZ g l)

@@ -1,10 +1,11 @@
 -- Lists: membership, the elements that pass a test, the first that does, the least, pairs, sums, and a list laid into a table.
 use mathlib.Core.Path.{_≡_}
 use mathlib.Core.Logic.{_≢_}
-use mathlib.Core.Bool.{Bool, true, false, _&&_, _||_, cond}
+use mathlib.Core.Bool.{Bool, true, false, not, _&&_, _||_, cond}
 use mathlib.Core.List.{List, [], _∷_, _++_, List·Memᴰ}
 use mathlib.Core.Option.{Option, none, some}
 use Prim.Native.Nat.{ℕ, zero, suc, _+_, _<_}
+use lib.Dec.{T}
 use lib.IntN.{ℤ, pos, _+ℤ_}
 use lib.Signed.{_≤ℤ_, _<ℤ_, ltZ}
 use lib.ListN.{length, take, drop, getD}
@@ -34,6 +35,12 @@ first q (x ∷ l) = elim (q x) [ true ↦ some x | false ↦ first q l ]
 abbrev pub firstFrom : {A : Type 0} → (A → Bool) → ℕ → List A → Option ℕ
 firstFrom q i [] = none
 firstFrom q i (x ∷ l) = elim (q x) [ true ↦ some i | false ↦ firstFrom q (suc i) l ]
+
+-- what that says: element number i passes, and none before it
+pub record FirstAt {A : Type 0} (q : A → Bool) (d : A) (l : List A) (i : ℕ) : Type 0 where
+  pub within : i < length l
+  pub here : T (q (getD l i d))
+  pub before : (j : ℕ) → j < i → T (not (q (getD l j d)))
 
 -- a place in a list, and a number of the element there
 pub record Least : Type 0 where

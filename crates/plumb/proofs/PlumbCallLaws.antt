@@ -1,6 +1,6 @@
 -- The plumb line's call on a list that is not flat, at x and y in range: it gives the hull's reading, and the placing call agrees.
 use mathlib.Core.Path.{_≡_, refl, sym, ap, ap₂, _∙_}
-use mathlib.Core.Logic.{_↔_, _⊎_, inl, inr, Iff·trans}
+use mathlib.Core.Logic.{_↔_, _⊎_, inl, inr}
 use mathlib.Core.Bool.{true, _&&_}
 use mathlib.Core.List.{List}
 use mathlib.Core.Option.{some}
@@ -12,17 +12,17 @@ use Rattle.touches.specs.declared.FaceNo.{FaceNo}
 use Rattle.touches.specs.Limits.{inRange}
 use Rattle.touches.specs.Touches.{touch, touchCount, faceNo, Sound}
 use Rattle.rules.specs.Faces.{Face}
-use Rattle.rules.specs.Placing.{on, inside, lies}
+use Rattle.rules.specs.Placing.{on, lies}
 use Rattle.rules.specs.Plumb.{Fraction, Plumb, misses, touches, through, plumb}
-use Rattle.rules.specs.Heights.{over, whole, AtMost, Below, Equal, NoneRefuses}
-use Rattle.rules.proofs.PlumbLaws.{lowest, highest, hull-reading, hull-places, line-through, line-touches, line-misses, misses-outside}
+use Rattle.rules.specs.Heights.{over, Below, Equal, NoneRefuses}
+use Rattle.rules.proofs.PlumbLaws.{lowest, highest, hull-reading, line-through, line-touches, line-misses, misses-outside}
 use Rattle.table.specs.Table.{firstFaces}
 use Rattle.hull.specs.Build.{hullOf, built, tableAfter}
 use Rattle.hull.specs.Place.{placedBy, placed}
 use Rattle.hull.specs.declared.place.Placed.{Placed}
-use Rattle.hull.specs.declared.place.Placed.the-variants.{Outside, On, Inside}
+use Rattle.hull.specs.declared.place.Placed.the-variants.{Outside}
 use Rattle.hull.proofs.Inversion.{Inverted}
-use Rattle.hull.proofs.CallLaws.{call-places, by-inside, by-on}
+use Rattle.hull.proofs.CallLaws.{call-places}
 use Rattle.plumb.specs.Plumb.{rounded, plumbedBy, plumbed}
 use Rattle.plumb.specs.declared.Plumbed.the-variants.{Misses, Touches, Through}
 use Rattle.plumb.proofs.PlumbedLaws.{sound-plumbed, over-read}
@@ -92,19 +92,6 @@ module _ {cs : List ℤ} {old : List ℕ} {n : ℕ} {v : ℤ} {h : List Face} (i
 
   at : placedAt ≡ placedBy (lies (touch cs) h (over x y z))
   at = call-places i (over x y z) (ap₂ _&&_ w in-range)
-
-  -- it is inside or on exactly if no upright face refuses the line and z is from the lower bound to the upper
-  pub call-between : ((placedAt ≡ Inside) ⊎ ((f : FaceNo) × (placedAt ≡ On f)))
-      ↔ (NoneRefuses (touch cs) h x y × AtMost (lower (i .sound) (i .is) x y w) (whole z) × AtMost (whole z) (upper (i .sound) (i .is) x y w))
-  call-between = Iff·trans (to, from) (hull-places (touch cs) (touchCount cs) (i .is) x y z)
-    where
-      to : (placedAt ≡ Inside) ⊎ ((f : FaceNo) × (placedAt ≡ On f)) → (lies (touch cs) h (over x y z) ≡ inside) ⊎ ((j : ℕ) × (lies (touch cs) h (over x y z) ≡ on j))
-      to (inl a) = inl (by-inside (lies (touch cs) h (over x y z)) (sym at ∙ a))
-      to (inr a) = inr (a .0 .0, by-on (lies (touch cs) h (over x y z)) (sym at ∙ a .1))
-
-      from : (lies (touch cs) h (over x y z) ≡ inside) ⊎ ((j : ℕ) × (lies (touch cs) h (over x y z) ≡ on j)) → (placedAt ≡ Inside) ⊎ ((f : FaceNo) × (placedAt ≡ On f))
-      from (inl a) = inl (at ∙ ap placedBy a)
-      from (inr a) = inr (faceNo (a .0), at ∙ ap placedBy (a .1))
 
   -- where the line misses, every place over x and y is outside
   pub call-outside : plumbed cs x y ≡ Misses → (f : FaceNo) × (d : ℤ) × (placedAt ≡ Outside f d)

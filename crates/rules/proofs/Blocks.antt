@@ -7,9 +7,10 @@ use lib.IntN.{ℤ, pos, negsuc}
 use lib.ListN.{getD}
 use Rattle.touches.specs.declared.Point.{Point}
 use Rattle.volume.specs.Volume.{Vol, normal, inLine}
+use Rattle.volume.specs.Triangle.{contains, inTriangle, onSegment}
 use Rattle.rules.specs.Faces.{Face, Places, faceVol, visible}
 use Rattle.rules.specs.Building.{seen, unseen, step, build, hull, volume}
-use Rattle.rules.specs.Placing.{outside, on, inside, worst, firstHolding, lies}
+use Rattle.rules.specs.Placing.{outside, on, inside, worst, holds, firstHolding, firstPlane, lies}
 
 abbrev at : ℤ → ℤ → ℤ → Point
 at x y z = record { x = x; y = y; z = z }
@@ -69,7 +70,7 @@ pub record Blocks : Type 0 where
   pub lies-beyond : lies (places block) four (at (pos 20) o o) ≡ outside 3 (pos 1000)
 
 pub blocks : Blocks
-unfolding hull build step seen unseen volume visible faceVol Vol inLine normal lies worst firstHolding
+unfolding hull build step seen unseen volume visible faceVol Vol inLine normal lies worst holds firstHolding firstPlane contains inTriangle onSegment
 blocks = record {
   T = record { faces = refl; size = refl };
   corner = record { faces = refl; size = refl };

@@ -1,15 +1,20 @@
 -- The invariant of the construction: what a face list h has once the touches of the list done are taken.
 use mathlib.Core.Path.{_≡_, refl, sym, subst}
 use mathlib.Core.Logic.{_≢_, _⊎_, inl, inr}
+use mathlib.Core.Bool.{false}
 use mathlib.Core.List.{List}
 use Prim.Native.Nat.{ℕ}
+use lib.Dec.{not-T}
 use lib.IntN.{ℤ, pos}
 use lib.Signed.{_≤ℤ_, _<ℤ_}
 use Rattle.laws.specs.Lists.{In, Pw, Nodup}
+use Rattle.laws.proofs.Tests.{is-false}
+use Rattle.laws.proofs.Order.{pos-ne}
 use Rattle.laws.proofs.Members.{Pw-get, Pw-weak}
 use Rattle.touches.specs.declared.Point.{Point}
-use Rattle.volume.specs.Volume.{Vol}
+use Rattle.volume.specs.Volume.{Vol, inLine}
 use Rattle.volume.proofs.VolumeLaws.{turn-abc}
+use Rattle.volume.proofs.LineLaws.{line-vol}
 use Rattle.volume.proofs.Rays.{OnRay, ray-self, ray-swap}
 use Rattle.rules.specs.Faces.{Face, Places, Side, side, corner, reversed, faceVol, sidesOf, sides}
 use Rattle.rules.specs.Demands.{CornersIn, Closed}
@@ -60,6 +65,13 @@ module _ {p : Places} {done : List ℕ} {h : List Face} (H : Hull p done h) wher
 
   pub hull-closed : Closed h
   hull-closed = record { once = sides-once; back = H .back }
+
+  -- a touch is behind each face, so that its corners are not in line
+  pub off-line : (f : Face) → In f h → inLine (p (corner f 0)) (p (corner f 1)) (p (corner f 2)) ≡ false
+  unfolding faceVol
+  off-line f m = let b = H .body f m in
+      is-false (inLine (p (corner f 0)) (p (corner f 1)) (p (corner f 2))) (not-T (inLine (p (corner f 0)) (p (corner f 1)) (p (corner f 2)))
+      (λ t. pos-ne (b .2) (line-vol (p (corner f 0)) (p (corner f 1)) (p (corner f 2)) (p (b .0)) t)))
 
   -- the invariant asks of the touches only which they are
   pub hull-touches : {all : List ℕ} → ((t : ℕ) → In t done → In t all) → ((t : ℕ) → In t all → In t done) → Hull p all h

@@ -13,6 +13,7 @@ pub mod MissingLaws
 pub mod CornerLaws
 pub mod AfterLaws
 pub mod PlaceLaws
+pub mod HoldsLaws
 pub mod AlikeLaws
 pub mod SurfaceLaws
 pub mod GrownLaws

@@ -18,7 +18,7 @@ use Rattle.volume.specs.Volume.{mostNormal, mostVolume}
 use Rattle.volume.proofs.Axes.{Axis, Z, on}
 use Rattle.rules.specs.Faces.{Face, Places, corner}
 use Rattle.rules.specs.Building.{hull}
-use Rattle.rules.specs.Placing.{Lies, outside, on as onFace, inside, lies}
+use Rattle.rules.specs.Placing.{Lies, outside, on as onFace, inside, astray, lies}
 use Rattle.rules.specs.Demands.{OnOrInside}
 use Rattle.rules.specs.Plumb.{faceNormal, facing, rest, Fraction, unbounded, bounds, Plumb, misses, touches, through, plumb}
 use Rattle.rules.specs.Heights.{over, whole, Proper, AtMost, Below, Equal, OnOrInsideAt, Says, Way, up, down, Looks, bound, meets, NoneRefuses, Spans, Fits}
@@ -70,7 +70,7 @@ module _ (p : Places) (n : ℕ) {h : List Face} (e : hull p n ≡ some h) where
     highest = hull-spans .1
 
     -- a place over x and y is on or inside exactly if no upright face refuses the line and its height is from the one bound to the other
-    pub hull-places : (z : ℤ) → ((lies p h (over x y z) ≡ inside) ⊎ ((i : ℕ) × (lies p h (over x y z) ≡ onFace i))) ↔ (NoneRefuses p h x y × AtMost lowest (whole z) × AtMost (whole z) highest)
+    pub hull-places : (z : ℤ) → OnOrInside p h (over x y z) ↔ (NoneRefuses p h x y × AtMost lowest (whole z) × AtMost (whole z) highest)
     hull-places = places-between (hull-spans .2)
 
     -- ---- the bounds are the heights of the reading
@@ -109,8 +109,9 @@ module _ (p : Places) (n : ℕ) {h : List Face} (e : hull p n ≡ some h) where
 
         go : (a : Lies) → lies p h (over x y z) ≡ a → (i : ℕ) × (d : ℤ) × (a ≡ outside i d)
         go (outside i d) r = (i, d, refl)
-        go (onFace i) r = absurd (no-place (lies-within p h (over x y z) .0 (inr (i, r))))
+        go (onFace i) r = absurd (no-place (lies-within p h (over x y z) .0 (inr (inl (i, r)))))
         go inside r = absurd (no-place (lies-within p h (over x y z) .0 (inl r)))
+        go astray r = absurd (no-place (lies-within p h (over x y z) .0 (inr (inr r))))
 
     -- ---- within range the parts of both bounds are whole numbers that doubles hold exactly
     module _ (near : (t : ℕ) → t < n → Near (p t)) (hx : Within reach x) (hy : Within reach y) where

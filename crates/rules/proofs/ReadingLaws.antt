@@ -4,16 +4,14 @@ use mathlib.Core.Logic.{_↔_, _⊎_, inl, inr, Iff·symm, Iff·trans}
 use mathlib.Core.Bool.{Bool, true, false, not, cond}
 use mathlib.Core.List.{List}
 use mathlib.Core.Option.{Option}
-use Prim.Native.Nat.{ℕ}
 use lib.Dec.{T}
 use lib.IntN.{ℤ}
 use lib.Signed.{ltZ-yes, ltZ-no}
 use Rattle.laws.proofs.Order.{<→≤, ≡→≤, not-lt, antisymm}
 use Rattle.rules.specs.Faces.{Face, Places}
-use Rattle.rules.specs.Placing.{on, inside, lies}
+use Rattle.rules.specs.Demands.{OnOrInside}
 use Rattle.rules.specs.Plumb.{Fraction, less, unbounded, bounds, Plumb, misses, touches, through, between, met, plumb}
 use Rattle.rules.specs.Heights.{over, whole, AtMost, Below, Equal, Says, NoneRefuses, Spans}
-use Rattle.rules.proofs.PlaceLaws.{lies-within}
 use Rattle.rules.proofs.HeightLaws.{at-most-trans, whole-height}
 
 -- what a reading tells of the bounds, A being that no upright face refuses
@@ -66,8 +64,8 @@ module _ {p : Places} {h : List Face} {x y : ℤ} {l u : Fraction} (s : Spans p 
       go (through v w) t = inr (inr (t .2))
 
   -- a place over x and y is on or inside exactly if no upright face refuses and its height is from l to u
-  pub places-between : (z : ℤ) → ((lies p h (over x y z) ≡ inside) ⊎ ((i : ℕ) × (lies p h (over x y z) ≡ on i))) ↔ (NoneRefuses p h x y × AtMost l (whole z) × AtMost (whole z) u)
-  places-between z = Iff·trans (lies-within p h (over x y z)) (Iff·trans (Iff·symm (whole-height p h x y z)) (s .heights (whole z) (record { lt = tt })))
+  pub places-between : (z : ℤ) → OnOrInside p h (over x y z) ↔ (NoneRefuses p h x y × AtMost l (whole z) × AtMost (whole z) u)
+  places-between z = Iff·trans (Iff·symm (whole-height p h x y z)) (s .heights (whole z) (record { lt = tt }))
 
   -- the line goes through exactly if the bound above is the greater, touches exactly if they are equal, and else misses
   pub through-exact : (plumb p h x y ≡ through u l) ↔ (NoneRefuses p h x y × Below l u)

@@ -1,23 +1,18 @@
 -- Demand 2: the hull of n touches is a closed surface over them, with a body and no touch in front.
 use mathlib.Core.Path.{_≡_, subst}
-use mathlib.Core.Bool.{false}
 use mathlib.Core.List.{List}
 use mathlib.Core.Option.{some}
 use Prim.Native.Nat.{ℕ, _<_}
 use native.Mathlib.Omega.{arith}
-use lib.Dec.{not-T}
-use lib.IntN.{ℤ, pos}
-use lib.Signed.{_<ℤ_, <ℤ-irrefl}
+use lib.IntN.{pos}
+use lib.Signed.{_<ℤ_}
 use Rattle.laws.specs.Lists.{In, upward}
-use Rattle.laws.proofs.Tests.{is-false}
 use Rattle.laws.proofs.Firsts.{in-upward, upward-in}
-use Rattle.volume.specs.Volume.{inLine}
-use Rattle.volume.proofs.LineLaws.{line-vol}
-use Rattle.rules.specs.Faces.{Face, Places, corner, faceVol}
+use Rattle.rules.specs.Faces.{Face, Places}
 use Rattle.rules.specs.Start.{corners}
 use Rattle.rules.specs.Building.{others, hull, volume}
 use Rattle.rules.specs.Demands.{Surface}
-use Rattle.rules.proofs.Hull.{Hull, hull-closed}
+use Rattle.rules.proofs.Hull.{Hull, hull-closed, off-line}
 use Rattle.rules.proofs.RoomLaws.{hull-corners, hull-room}
 use Rattle.rules.proofs.StartLaws.{started}
 use Rattle.rules.proofs.AfterLaws.{after-positive, hull-built, all-taken}
@@ -29,12 +24,6 @@ module _ (p : Places) (n : ℕ) {h : List Face} (e : hull p n ≡ some h) where
   pub number-below : (t : ℕ) → In t (upward 0 n) → t < n
   number-below t m = omega (arith, in-upward 0 n m)
 
-  not-in-line : (f : Face) → In f h → inLine (p (corner f 0)) (p (corner f 1)) (p (corner f 2)) ≡ false
-  unfolding faceVol
-  not-in-line f m = let b = whole-hull .body f m in
-      is-false (inLine (p (corner f 0)) (p (corner f 1)) (p (corner f 2))) (not-T (inLine (p (corner f 0)) (p (corner f 1)) (p (corner f 2)))
-      (λ t. <ℤ-irrefl (subst (λ (z : ℤ). pos 0 <ℤ z) (line-vol (p (corner f 0)) (p (corner f 1)) (p (corner f 2)) (p (b .0)) t) (b .2))))
-
   positive-volume : pos 0 <ℤ volume p h
   unfolding volume
   positive-volume = let b = hull-built p n e in subst (λ (g : List Face). pos 0 <ℤ volume p g) (b .2) (after-positive (started p n (b .1)) (others (b .0) n) (p 0))
@@ -45,7 +34,7 @@ module _ (p : Places) (n : ℕ) {h : List Face} (e : hull p n ≡ some h) where
     corners = hull-corners whole-hull n number-below;
     behind = λ t l f m. whole-hull .supporting f m t (upward-in 0 n t (omega arith) (omega arith));
     body = λ f m. let t = whole-hull .body f m in (t .0, number-below (t .0) (t .1), t .2);
-    off-line = not-in-line;
+    off-line = off-line whole-hull;
     room = hull-room whole-hull n number-below;
     positive = positive-volume;
   }

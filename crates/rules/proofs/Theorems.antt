@@ -27,7 +27,7 @@ use Rattle.volume.specs.Volume.{mostVolume}
 use Rattle.rules.specs.Faces.{Face, Places, faceVol}
 use Rattle.rules.specs.Start.{Start, start}
 use Rattle.rules.specs.Building.{seen, step, after, hull, volume}
-use Rattle.rules.specs.Placing.{Lies, outside, on, inside, lies}
+use Rattle.rules.specs.Placing.{Lies, outside, on, inside, astray, lies}
 use Rattle.rules.specs.Demands.{Flat, CornersIn, OnOrInside, Surface, Growth}
 use Rattle.rules.proofs.FaceLaws.{→unseen}
 use Rattle.rules.proofs.Hull.{Hull}
@@ -131,9 +131,6 @@ module _ {p r : Places} {n m : ℕ} {h g : List Face} (w : Growth p r n m h g) w
   pub inside-stays : (q : Point) → lies p h q ≡ inside → lies r g q ≡ inside
   inside-stays q e = lies-inside r g q .1 (w .inside q (lies-inside p h q .0 e))
 
-  pub on-stays : (q : Point) (i : ℕ) → lies p h q ≡ on i → (lies r g q ≡ inside) ⊎ ((j : ℕ) × (lies r g q ≡ on j))
-  on-stays q i e = lies-within r g q .1 (w .on q (lies-within p h q .0 (inr (i, e))))
-
   pub rises-outside : (volume p h <ℤ volume r g) ↔ ((t : ℕ) × (n ≤ t) × (t < n + m) × (i : ℕ) × (d : ℤ) × (lies p h (r t) ≡ outside i d))
   rises-outside = (
     (λ l. let u = w .rises .0 l in let o = lies-outside p h (r (u .0)) .1 (u .3) in (u .0, u .1, u .2, o .0, o .1, o .2)),
@@ -173,7 +170,8 @@ module _ (L M : List ℤ) (l : length L % 3 ≡ 0) (k : length M % 3 ≡ 0) {h :
   pub lists-same : (SomeOutside → ⊥) → lists-grow .0 ≡ h
   lists-same d = lists-grow .2 .same (λ t a b. lies-within (touch L) h (touch (L ++ M) t) .0 (go t a b (lies (touch L) h (touch (L ++ M) t)) refl))
     where
-      go : (t : ℕ) → touchCount L ≤ t → t < touchCount L + touchCount M → (x : Lies) → lies (touch L) h (touch (L ++ M) t) ≡ x → (lies (touch L) h (touch (L ++ M) t) ≡ inside) ⊎ ((i : ℕ) × (lies (touch L) h (touch (L ++ M) t) ≡ on i))
+      go : (t : ℕ) → touchCount L ≤ t → t < touchCount L + touchCount M → (x : Lies) → lies (touch L) h (touch (L ++ M) t) ≡ x → (lies (touch L) h (touch (L ++ M) t) ≡ inside) ⊎ ((i : ℕ) × (lies (touch L) h (touch (L ++ M) t) ≡ on i)) ⊎ (lies (touch L) h (touch (L ++ M) t) ≡ astray)
       go t a b (outside i c) e = absurd (d (to-own (t, a, b, i, c, e)))
-      go t a b (on i) e = inr (i, e)
+      go t a b (on i) e = inr (inl (i, e))
       go t a b inside e = inl e
+      go t a b astray e = inr (inr e)

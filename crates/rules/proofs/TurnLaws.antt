@@ -4,13 +4,12 @@ use mathlib.Core.Logic.{_↔_, _⊎_, inl, inr}
 use mathlib.Core.Bool.{Bool, true, false, not, cond}
 use mathlib.Core.List.{[], _∷_}
 use mathlib.Core.Option.{Option, none, some}
-use Prim.Native.Nat.{ℕ, zero, suc}
-use native.Mathlib.Omega.{arith}
+use Prim.Native.Nat.{zero, suc}
 use lib.Dec.{T}
 use lib.IntN.{ℤ, pos, negsuc, negℤ, _*ℤ_}
-use lib.Signed.{_≤ℤ_, _<ℤ_, leZ, leZ-yes, ltZ-yes, ltZ-no, <ℤ-irrefl}
+use lib.Signed.{_≤ℤ_, _<ℤ_, leZ, leZ-yes, ltZ-yes, ltZ-no}
 use Rattle.laws.proofs.Tests.{and-both, both-and}
-use Rattle.laws.proofs.Order.{≤-refl, <→≤, pos-mono, nat-not-neg, mul-nonneg, cancel-nonneg}
+use Rattle.laws.proofs.Order.{≤-refl, <→≤, suc-pos, pos-ne, neg-ne, nat-not-neg, mul-nonneg, cancel-nonneg}
 use Rattle.laws.proofs.Ring.{o, var, _:*_, neg}
 use Rattle.laws.proofs.Certificates.{order, le}
 use Rattle.rules.specs.Plumb.{Fraction, less, more, height, Bounds, tighter, bounded}
@@ -75,9 +74,6 @@ data Turn (w : Way) (s r : ℤ) (b : Bounds) : Type 0 where
   moved : Looks w s → bound w (bounded s r b) ≡ tighter (beats w) (bound w b) (height s r) → Turn w s r b
   kept : (Looks w s → ⊥) → bound w (bounded s r b) ≡ bound w b → Turn w s r b
 
-suc-pos : (n : ℕ) → pos 0 <ℤ pos (suc n)
-suc-pos n = pos-mono (omega arith)
-
 turn : (w : Way) (s r : ℤ) (b : Bounds) → Turn w s r b
 turn up (pos zero) r b = kept (λ l. l .lt) refl
 turn up (pos (suc n)) r b = moved (suc-pos n) refl
@@ -120,8 +116,8 @@ module _ (w : Way) (s r : ℤ) (b : Bounds) where
 
 -- ---- an upright face looks neither way, and admits the line or not
 level : (w : Way) (s : ℤ) → s ≡ pos 0 → Looks w s → ⊥
-level up s e l = <ℤ-irrefl (subst (λ (z : ℤ). pos 0 <ℤ z) e l)
-level down s e l = <ℤ-irrefl (subst (λ (z : ℤ). z <ℤ pos 0) e l)
+level up s e l = pos-ne l e
+level down s e l = neg-ne l e
 
 pub bounded-upright : (s r : ℤ) (b : Bounds) → T (bounded s r b .admits) ↔ (T (b .admits) × (s ≡ pos 0 → pos 0 ≤ℤ r))
 bounded-upright (pos zero) r b = (

@@ -1,21 +1,22 @@
 -- What demands 2 and 3 say, as definitions over any face list.
 use mathlib.Core.Path.{_≡_}
 use mathlib.Core.Logic.{_↔_}
-use mathlib.Core.Bool.{false}
+use mathlib.Core.Bool.{false, not}
 use mathlib.Core.List.{List, []}
 use mathlib.Core.Option.{Option, none, some}
 use Prim.Native.Nat.{ℕ, _+_, _*_, _-_, _≤_, _<_}
+use lib.Dec.{T}
 use lib.ListN.{length}
 use lib.IntN.{ℤ, pos}
 use lib.Signed.{_≤ℤ_, _<ℤ_, ltZ}
-use Rattle.laws.specs.Lists.{In, Nodup, firstFrom, LeastAt}
+use Rattle.laws.specs.Lists.{In, Nodup, firstFrom, FirstAt, LeastAt}
 use Rattle.touches.specs.declared.Point.{Point}
 use Rattle.touches.specs.Touches.{touchCount}
 use Rattle.volume.specs.Volume.{Vol, inLine, isZero}
 use Rattle.rules.specs.Faces.{Face, Places, corner, Side, reversed, faceVol, sides}
 use Rattle.rules.specs.Start.{start}
 use Rattle.rules.specs.Building.{volume}
-use Rattle.rules.specs.Placing.{Lies, outside, on, inside}
+use Rattle.rules.specs.Placing.{Lies, outside, on, inside, astray, holds}
 
 -- every four of the first n touches have V = 0
 abbrev pub Flat : Places → ℕ → Type 0
@@ -57,6 +58,14 @@ Outside p h q = (f : Face) × In f h × (faceVol p f q <ℤ pos 0)
 abbrev pub Worst : Places → List Face → Point → ℕ → ℤ → Type 0
 Worst p h q i v = LeastAt (λ f. faceVol p f q) [] h i v
 
+-- 02 A5: face number i is the first that holds q
+abbrev pub FirstHolding : Places → List Face → Point → ℕ → Type 0
+FirstHolding p h q i = FirstAt (λ f. holds p f q) [] h i
+
+-- q is in front of no face, on the plane of some, and held by none
+abbrev pub Astray : Places → List Face → Point → Type 0
+Astray p h q = OnOrInside p h q × OnPlane p h q × ((f : Face) → In f h → T (not (holds p f q)))
+
 -- 01's three cases, without face numbers: in front of some face, else on the plane of some face, else neither
 pub data Case : Type 0 where
   outsideCase onCase insideCase : Case
@@ -73,6 +82,7 @@ abbrev pub caseOf : Lies → Case
 caseOf (outside i d) = outsideCase
 caseOf (on i) = onCase
 caseOf inside = insideCase
+caseOf astray = onCase
 
 -- demand 2: h is a closed surface over the first n touches, no touch is in front of it, and it has a body
 pub record Surface (p : Places) (n : ℕ) (h : List Face) : Type 0 where

@@ -39,6 +39,9 @@ touchRoomTooSmall = 11
 abbrev pub recordRoomTooSmall : ℕ
 recordRoomTooSmall = 12
 
+abbrev pub placeInNoTriangle : ℕ
+placeInNoTriangle = 17
+
 -- a refusal that speaks of no touch
 abbrev pub because : ℕ → Refusal
 because n = refusal n 0

@@ -80,6 +80,8 @@ impl Refusal {
 
     pub const RECORD_ROOM_TOO_SMALL: u8 = 12;
 
+    pub const PLACE_IN_NO_TRIANGLE: u8 = 17;
+
     // A refusal that speaks of no touch.
     pub fn because(number: u8) -> Refusal
         ensures { λ r. ⌜ r ≡ because number ⌝ }

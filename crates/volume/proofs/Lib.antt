@@ -8,3 +8,8 @@ pub mod Turn
 pub mod LineLaws
 pub mod FlatLaws
 pub mod NormalLaws
+pub mod SquareLaws
+pub mod TriangleLaws
+pub mod SegmentLaws
+pub mod SameWayLaws
+pub mod ContainsLaws

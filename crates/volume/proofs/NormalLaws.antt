@@ -7,7 +7,7 @@ use Rattle.laws.proofs.Certificates.{combine, eqn}
 use Rattle.touches.specs.declared.Point.{Point}
 use Rattle.volume.specs.Volume.{Vol, det2, minus, cross, normal}
 use Rattle.volume.proofs.Axes.{Axis, X, Y, Z, on}
-use Rattle.volume.proofs.Quote.{Spot, W, env, pt, onE, det2E, minusE, crossE}
+use Rattle.volume.proofs.Quote.{Spot, W, env, pt, onE, det2E, minusE, crossE, normalE}
 
 -- ---- the normal
 det2-turn : (a b c d : ℤ) → det2 c d a b ≡ negℤ (det2 a b c d)
@@ -18,17 +18,17 @@ cross-turn X a b = det2-turn (a .y) (a .z) (b .y) (b .z)
 cross-turn Y a b = det2-turn (a .z) (a .x) (b .z) (b .x)
 cross-turn Z a b = det2-turn (a .x) (a .y) (b .x) (b .y)
 
-abbrev normalE : Spot
-normalE = crossE (minusE (pt 1) (pt 0)) (minusE (pt 2) (pt 0))
+abbrev n : Spot
+n = normalE (pt 0) (pt 1) (pt 2)
 
 abbrev crossesE : Axis → Ex
 crossesE i = onE (crossE (pt 0) (pt 1)) i :+ onE (crossE (pt 1) (pt 2)) i :+ onE (crossE (pt 2) (pt 0)) i
 
 pub normal-sides : (i : Axis) (a b c : Point) → on (normal a b c) i ≡ on (cross a b) i +ℤ on (cross b c) i +ℤ on (cross c a) i
 unfolding normal
-normal-sides X a b c = ring (env (a ∷ b ∷ c ∷ [])) (onE normalE X) (crossesE X) tt
-normal-sides Y a b c = ring (env (a ∷ b ∷ c ∷ [])) (onE normalE Y) (crossesE Y) tt
-normal-sides Z a b c = ring (env (a ∷ b ∷ c ∷ [])) (onE normalE Z) (crossesE Z) tt
+normal-sides X a b c = ring (env (a ∷ b ∷ c ∷ [])) (onE n X) (crossesE X) tt
+normal-sides Y a b c = ring (env (a ∷ b ∷ c ∷ [])) (onE n Y) (crossesE Y) tt
+normal-sides Z a b c = ring (env (a ∷ b ∷ c ∷ [])) (onE n Z) (crossesE Z) tt
 
 -- ---- V of a face that is upright along an axis: the wall of each side, between it and o
 pub wall : Axis → Point → Point → Point → ℤ
@@ -52,6 +52,6 @@ wall-turn i o s t = law (on s i -ℤ on o i) (on t i -ℤ on o i) (on (cross (mi
 
 pub upright-walls : (i : Axis) (a b c o : Point) → on (normal a b c) i ≡ pos 0 → Vol a b c o ≡ wall i o a b +ℤ wall i o b c +ℤ wall i o c a
 unfolding Vol normal wall
-upright-walls X a b c q = combine (env (a ∷ b ∷ c ∷ q ∷ [])) (eqn (heightsE X) (onE normalE X) o ∷ []) (W 0 1 2 3) (wallsE X) tt
-upright-walls Y a b c q = combine (env (a ∷ b ∷ c ∷ q ∷ [])) (eqn (heightsE Y) (onE normalE Y) o ∷ []) (W 0 1 2 3) (wallsE Y) tt
-upright-walls Z a b c q = combine (env (a ∷ b ∷ c ∷ q ∷ [])) (eqn (heightsE Z) (onE normalE Z) o ∷ []) (W 0 1 2 3) (wallsE Z) tt
+upright-walls X a b c q = combine (env (a ∷ b ∷ c ∷ q ∷ [])) (eqn (heightsE X) (onE n X) o ∷ []) (W 0 1 2 3) (wallsE X) tt
+upright-walls Y a b c q = combine (env (a ∷ b ∷ c ∷ q ∷ [])) (eqn (heightsE Y) (onE n Y) o ∷ []) (W 0 1 2 3) (wallsE Y) tt
+upright-walls Z a b c q = combine (env (a ∷ b ∷ c ∷ q ∷ [])) (eqn (heightsE Z) (onE n Z) o ∷ []) (W 0 1 2 3) (wallsE Z) tt

@@ -46,6 +46,9 @@ crossE u v = record { x = det2E (u .y) (u .z) (v .y) (v .z); y = det2E (u .z) (u
 abbrev pub dotE : Spot → Spot → Ex
 dotE u v = u .x :* v .x :+ u .y :* v .y :+ u .z :* v .z
 
+abbrev pub normalE : Spot → Spot → Spot → Spot
+normalE a b c = crossE (minusE b a) (minusE c a)
+
 -- V of four numbered points
 abbrev pub W : ℕ → ℕ → ℕ → ℕ → Ex
 W a b c d = volE (pt a) (pt b) (pt c) (pt d)

@@ -1,0 +1,12 @@
+pub mod DetLaws
+pub mod Hits
+pub mod FaceCount
+pub mod Nearby
+pub mod CentreLaws
+pub mod StartCount
+pub mod StepCount
+pub mod RunCount
+pub mod CoverLaws
+pub mod Blends
+pub mod MixedLaws
+pub mod Theorems
