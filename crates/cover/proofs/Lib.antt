@@ -9,4 +9,5 @@ pub mod RunCount
 pub mod CoverLaws
 pub mod Blends
 pub mod MixedLaws
+pub mod OrderLaws
 pub mod Theorems

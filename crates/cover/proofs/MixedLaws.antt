@@ -15,7 +15,7 @@ use Rattle.volume.specs.Volume.{Vol}
 use Rattle.volume.specs.Triangle.{Mixture}
 use Rattle.volume.proofs.Axes.{X, Y, Z}
 use Rattle.rules.specs.Faces.{Face, Places, corner, faceVol}
-use Rattle.rules.specs.Demands.{CornersIn, OnOrInside, OnPlane}
+use Rattle.rules.specs.Demands.{OnOrInside, OnPlane}
 use Rattle.rules.proofs.Hull.{Hull, off-line}
 use Rattle.cover.specs.Cones.{Centre, Covers}
 use Rattle.cover.proofs.DetLaws.{cube, cube-pos}
@@ -37,12 +37,23 @@ back d w s x i a j b k c h e f = -ℤ-zero ((i +ℤ j +ℤ k) *ℤ x) (i *ℤ a 
     ∷ eqn one (var 0 :* (var 1 :* var 3 :- var 2)) (var 4 :* (var 1 :* var 5 :- var 2) :+ var 6 :* (var 1 :* var 7 :- var 2) :+ var 8 :* (var 1 :* var 9 :- var 2)) ∷ [])
     (var 1 :* ((var 4 :+ var 6 :+ var 8) :* var 3 :- (var 4 :* var 5 :+ var 6 :* var 7 :+ var 8 :* var 9))) o tt e f))
 
+-- the corners' part of V, for the plane of a, b, d, which has no touch in front
+module _ {p : Places} {done : List ℕ} {h : List Face} (H : Hull p done h) (c : Centre p done) {q : Point} (m : Blend p h (c .w) (c .s) q) (a b d : Point) (behind : (t : ℕ) → In t done → pos 0 ≤ℤ Vol a b d (p t)) where
+  abbrev part : ℕ → ℤ
+  part n = cube (c .w) *ℤ Vol a b d (p (corner (m .face) n))
+
+  pub corners-behind : pos 0 ≤ℤ (m .i *ℤ part 0 +ℤ m .j *ℤ part 1 +ℤ m .k *ℤ part 2)
+  corners-behind = let own = H .corners (m .face) (m .face-in) in add-nonneg (add-nonneg (share (m .i-nonneg) (own .a)) (share (m .j-nonneg) (own .b))) (share (m .k-nonneg) (own .c))
+    where
+      share : {i : ℤ} {t : ℕ} → pos 0 ≤ℤ i → In t done → pos 0 ≤ℤ (i *ℤ (cube (c .w) *ℤ Vol a b d (p t)))
+      share {i} {t} k n = mul-nonneg k (mul-nonneg (<→≤ (cube-pos (c .positive))) (behind t n))
+
 module _ {p : Places} {done : List ℕ} {h : List Face} (H : Hull p done h) (c : Centre p done) {q : Point} (within : OnOrInside p h q) (plane : OnPlane p h q) (m : Blend p h (c .w) (c .s) q) where
   -- the centre has no weight: it is behind the plane of a face that q is on, and no corner is in front of that plane
   weightless : cube (c .w) *ℤ faceVol p (m .face) q ≡ pos 0
   unfolding faceVol
   weightless = no-weight (sym (m .volume (at 0) (at 1) (at 2)) ∙ left)
-      (add-nonneg (add-nonneg (share (m .i-nonneg) (own .a)) (share (m .j-nonneg) (own .b))) (share (m .k-nonneg) (own .c)))
+      (corners-behind H c m (at 0) (at 1) (at 2) (H .supporting f (plane .1)))
       (mul-nonneg (<→≤ (cube-pos (c .positive))) (within (m .face) (m .face-in)))
       (c .amid (at 0) (at 1) (at 2) (off-line H f (plane .1)) (H .supporting f (plane .1)))
     where
@@ -52,14 +63,8 @@ module _ {p : Places} {done : List ℕ} {h : List Face} (H : Hull p done h) (c :
       at : ℕ → Point
       at n = p (corner f n)
 
-      own : CornersIn (λ t. In t done) (m .face)
-      own = H .corners (m .face) (m .face-in)
-
       left : m .whole *ℤ (cube (c .w) *ℤ Vol (at 0) (at 1) (at 2) q) ≡ pos 0
       left = ap (λ (z : ℤ). m .whole *ℤ (cube (c .w) *ℤ z)) (plane .2) ∙ ap (λ (z : ℤ). m .whole *ℤ z) (*ℤ-zero (cube (c .w))) ∙ *ℤ-zero (m .whole)
-
-      share : {i : ℤ} {t : ℕ} → pos 0 ≤ℤ i → In t done → pos 0 ≤ℤ (i *ℤ (cube (c .w) *ℤ Vol (at 0) (at 1) (at 2) (p t)))
-      share {i} {t} k n = mul-nonneg k (mul-nonneg (<→≤ (cube-pos (c .positive))) (H .supporting f (plane .1) t n))
 
   total : m .whole ≡ m .i +ℤ m .j +ℤ m .k
   total = m .sum ∙ ap (λ (z : ℤ). m .i +ℤ m .j +ℤ m .k +ℤ z) weightless ∙ +ℤ-idr (m .i +ℤ m .j +ℤ m .k)

@@ -1,1 +1,2 @@
 pub mod Cones
+pub mod Sets

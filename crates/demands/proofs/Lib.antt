@@ -6,6 +6,7 @@ pub mod RecordFirsts
 pub mod BuiltLaws
 pub mod PlacedLaws
 pub mod GrowLaws
+pub mod SameLaws
 pub mod ExactLaws
 pub mod TripLaws
 pub mod PlumbLineLaws

@@ -34,6 +34,13 @@ use Rattle.demands.proofs.FirstLaws.{past}
 use Rattle.demands.proofs.CallFirsts.{place-never, place-first}
 use Rattle.demands.proofs.BuiltLaws.{place-is}
 
+-- 01's case of an answer is that of the rules
+by-case : (l : Lies) → (l ≡ astray → ⊥) → caseAnswered (placedBy l) ≡ some (caseOf l)
+by-case (outside i d) n = refl
+by-case (on i) n = refl
+by-case inside n = refl
+by-case astray n = absurd (n refl)
+
 module _ (cs : List ℤ) (t : List ℕ) (q : Point) where
   abbrev rules : Lies
   rules = lies (touch cs) (facesIn t) q
@@ -49,12 +56,6 @@ module _ (cs : List ℤ) (t : List ℕ) (q : Point) where
       go (CheckAccepted c) false b d = absurd (d (because noSuchFace) refl)
       go (CheckAccepted c) true false d = absurd (d (because placeOutOfRange) refl)
       go (CheckAccepted c) true true d = refl
-
-  by-case : (l : Lies) → (l ≡ astray → ⊥) → caseAnswered (placedBy l) ≡ some (caseOf l)
-  by-case (outside i d) n = refl
-  by-case (on i) n = refl
-  by-case inside n = refl
-  by-case astray n = absurd (n refl)
 
   pub placings : ((r : Refusal) → placed cs t q ≡ PlaceRefused r → ⊥) → IsPlaced cs t q (placed cs t q)
   placings n = let e = answered-is n in let p = touch cs in let h = facesIn t in record {
@@ -87,6 +88,9 @@ module _ {cs : List ℤ} {old : List ℕ} {n : ℕ} {v : ℤ} {h : List Face} (i
 
   pub hull-answers : (r : Refusal) → place cs old q ≡ PlaceRefused r → ⊥
   hull-answers r e = place-never (lies (touch cs) h q) not-astray r .0 (sym (place-is i q w) ∙ e)
+
+  pub hull-case : caseAnswered (place cs old q) ≡ some (caseOf (lies (touch cs) h q))
+  hull-case = ap caseAnswered (place-is i q w) ∙ by-case (lies (touch cs) h q) not-astray
 
   -- on or inside, by the answer and by the rules
   pub hull-within : ((place cs old q ≡ Inside) ⊎ ((f : FaceNo) × (place cs old q ≡ On f))) ↔ OnOrInside (touch cs) h q

@@ -20,6 +20,7 @@ use Rattle.demands.proofs.GrowLaws.{grows, never-flat}
 use Rattle.demands.proofs.ExactLaws.{volume-exact, planes-exact, readings-exact}
 use Rattle.demands.proofs.TripLaws.{trip-list, trip-record}
 use Rattle.demands.proofs.PlacedLaws.{placings, astray-on, hull-answers}
+use Rattle.demands.proofs.SameLaws.{same-case, same-flat}
 use Rattle.demands.proofs.PlumbLineLaws.{plumb-line}
 
 pub demands : Demands
@@ -51,5 +52,7 @@ demands = record {
   placings = placings;
   astray-on = astray-on;
   never-astray = λ cs old n v e q near. hull-answers (inverted cs old e .1) q (near-place q near);
+  order = λ L M old new n m v w same e f q near. same-case (inverted L old e .1) (inverted M new f .1) same q (near-place q near);
+  order-flat = same-flat;
   plumb-line = λ cs old n v x y e hx hy. plumb-line (inverted cs old e .1) x y hx hy;
 }

@@ -28,6 +28,7 @@ use Rattle.rules.specs.Building.{volume}
 use Rattle.rules.specs.Demands.{Flat, Closed, FaceOf, OnOrInside, Inside as BehindAll, Outside as InFrontOfSome, Worst, FirstHolding, Astray, Case, outsideCase, onCase, insideCase, caseBefore}
 use Rattle.rules.specs.Plumb.{Fraction}
 use Rattle.rules.specs.Heights.{over, whole, AtMost, Below, Equal, NoneRefuses, Spans}
+use Rattle.cover.specs.Sets.{SamePlaces}
 use Rattle.table.specs.Table.{stride, room, firstFaces, facesIn}
 use Rattle.hull.specs.Build.{hullOf, built, tableAfter, builtCount}
 use Rattle.hull.specs.Place.{placed}
@@ -245,6 +246,10 @@ pub record IsPlaced (cs : List ℤ) (t : List ℕ) (q : Point) (a : Placed) : Ty
   -- outside names the face with the least V, the first of equals, and gives minus that V
   pub worst : (f : FaceNo) (d : ℤ) → (a ≡ Outside f d) ↔ (Worst (touch cs) (facesIn t) q (f .0) (negℤ d) × (pos 0 <ℤ d))
 
+-- ==== 02 A12: each touch of L is where some touch of M is, and the other way round
+abbrev pub SameTouches : List ℤ → List ℤ → Type 0
+SameTouches L M = SamePlaces (touch L) (touchCount L) (touch M) (touchCount M)
+
 -- ==== 02 A3: the plumb line at x and y is answered with a, over the hull h that building wrote for cs
 -- both numbers of a height are held exactly as doubles
 pub record ExactHeight (t : Fraction) : Type 0 where
@@ -310,5 +315,10 @@ pub record Demands : Type 0 where
   pub astray-on : (cs : List ℤ) (t : List ℕ) (q : Point) → placed cs t q ≡ PlaceRefused (because placeInNoTriangle) → caseBefore (touch cs) (facesIn t) q ≡ onCase
   -- against what building wrote no place in range is refused
   pub never-astray : (cs : List ℤ) (old : List ℕ) (n : ℕ) (v : ℤ) → built cs old ≡ Hull n v → (q : Point) → Near q → (r : Refusal) → place cs old q ≡ PlaceRefused r → ⊥
+  -- 02 A12: two lists over one set of positions, in any order and with any repeats: each place in range is inside, on or outside alike
+  pub order : (L M : List ℤ) (old new : List ℕ) (n m : ℕ) (v w : ℤ) → SameTouches L M → built L old ≡ Hull n v → built M new ≡ Hull m w
+      → (q : Point) → Near q → caseAnswered (place L old q) ≡ caseAnswered (place M new q)
+  -- and the one is flat exactly if the other is, of lists that pass 1 to 3
+  pub order-flat : (L M : List ℤ) (old new : List ℕ) → SameTouches L M → Sound L → Sound M → (built L old ≡ Refused (because allTouchesOnOnePlane)) ↔ (built M new ≡ Refused (because allTouchesOnOnePlane))
   -- 02 A3: what a plumb line says, of a list that building accepts, at x and y in range
   pub plumb-line : (cs : List ℤ) (old : List ℕ) (n : ℕ) (v x y : ℤ) → built cs old ≡ Hull n v → InRange x → InRange y → PlumbLine cs old (triangles cs old) x y (plumbed cs x y)

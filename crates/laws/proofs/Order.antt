@@ -125,6 +125,9 @@ add-nonneg {a} {b} h k = omega (arith, zs, sum-is a b, pos-is 0)
 pub add-pos : {a b : ℤ} → pos 0 <ℤ a → pos 0 ≤ℤ b → pos 0 <ℤ (a +ℤ b)
 add-pos {a} {b} h k = omega (arith, zs, sum-is a b, pos-is 0)
 
+pub nonneg-add : {a b : ℤ} → pos 0 ≤ℤ a → pos 0 <ℤ b → pos 0 <ℤ (a +ℤ b)
+nonneg-add {a} {b} h k = omega (arith, zs, sum-is a b, pos-is 0)
+
 pub neg-mono : {a b : ℤ} → a ≤ℤ b → negℤ b ≤ℤ negℤ a
 neg-mono {a} {b} h = omega (arith, zs, up-neg a, dn-neg a, up-neg b, dn-neg b)
 

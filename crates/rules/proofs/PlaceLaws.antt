@@ -21,7 +21,7 @@ use Rattle.volume.specs.Volume.{isZero}
 use Rattle.volume.specs.Triangle.{contains}
 use Rattle.rules.specs.Faces.{Face, Places, corner, faceVol}
 use Rattle.rules.specs.Placing.{Lies, outside, on, inside, astray, worst, holds, firstHolding, firstPlane, notOutside, byWorst, lies}
-use Rattle.rules.specs.Demands.{Inside, OnOrInside, OnPlane, Outside, Worst, FirstHolding, Astray, byFirsts, caseBefore, caseOf}
+use Rattle.rules.specs.Demands.{Inside, OnOrInside, OnPlane, Outside, Worst, FirstHolding, Astray, outsideCase, onCase, insideCase, byFirsts, caseBefore, caseOf}
 
 -- a face that holds a place holds it on its plane
 pub holds-plane : (p : Places) (f : Face) (q : Point) → T (holds p f q) → faceVol p f q ≡ pos 0
@@ -156,6 +156,27 @@ module _ (p : Places) (h : List Face) (q : Point) where
       from (on i) u d = inr (inl (i, refl))
       from inside u d = inl refl
       from astray u d = inr (inr refl)
+
+  -- the case by what holds of all faces
+  pub case-inside : Inside p h q → caseOf (lies p h q) ≡ insideCase
+  case-inside d = ap caseOf (lies-inside .1 d)
+
+  pub case-on : OnOrInside p h q → (Inside p h q → ⊥) → caseOf (lies p h q) ≡ onCase
+  case-on d n = go (lies-within .1 d)
+    where
+      go : (lies p h q ≡ inside) ⊎ ((i : ℕ) × (lies p h q ≡ on i)) ⊎ (lies p h q ≡ astray) → caseOf (lies p h q) ≡ onCase
+      go (inl e) = absurd (n (lies-inside .0 e))
+      go (inr (inl u)) = ap caseOf (u .1)
+      go (inr (inr e)) = ap caseOf e
+
+  pub case-outside : (OnOrInside p h q → ⊥) → caseOf (lies p h q) ≡ outsideCase
+  case-outside n = go (lies p h q) refl
+    where
+      go : (l : Lies) → lies p h q ≡ l → caseOf l ≡ outsideCase
+      go (outside i d) e = refl
+      go (on i) e = absurd (n (lies-within .0 (inr (inl (i, e)))))
+      go inside e = absurd (n (lies-within .0 (inl e)))
+      go astray e = absurd (n (lies-within .0 (inr (inr e))))
 
   -- in front of no face: only the first that holds q and the first whose plane does decide
   pub lies-behind : OnOrInside p h q → lies p h q ≡ rest
