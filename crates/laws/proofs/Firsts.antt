@@ -105,28 +105,32 @@ from-some {A} q i (x ∷ l) {j} e = go (λ f. from-some q (suc i) l f) (q x) ref
     go r true h e = (x, here refl, subst T (sym h) tt)
     go r false h e = let t = r e in (t .0, there (t .1), t .2)
 
--- ---- by its place: nothing before it passes
-module _ {A : Type 0} (q : A → Bool) (d : A) where
-  -- the list's first element being number k
-  pub record FirstFrom (l : List A) (k i : ℕ) : Type 0 where
-    pub at : ℕ
-    pub place : i ≡ k + at
-    pub so : FirstAt q d l at
+-- ---- by its place
+-- S holds of a place in a list whose first element is number k, and i is the number there
+pub record From (S : ℕ → Type 0) (k i : ℕ) : Type 0 where
+  pub at : ℕ
+  pub place : i ≡ k + at
+  pub so : S at
 
-  first-from : (l : List A) (k : ℕ) {i : ℕ} → firstFrom q k l ≡ some i → FirstFrom l k i
+pub from-0 : {S : ℕ → Type 0} {i : ℕ} → From S 0 i → S i
+from-0 {S} {i} s = let p : s .at ≡ i = omega (arith, s .place) in rw (sym p) (s .so)
+
+-- nothing before it passes
+module _ {A : Type 0} (q : A → Bool) (d : A) where
+  first-from : (l : List A) (k : ℕ) {i : ℕ} → firstFrom q k l ≡ some i → From (FirstAt q d l) k i
   first-from [] k e = absurd (no-some e)
   first-from (x ∷ l) k {i} e = go (λ f. first-from l (suc k) f) (q x) refl e
     where
-      go : (firstFrom q (suc k) l ≡ some i → FirstFrom l (suc k) i) → (b : Bool) → q x ≡ b → (elim b as (λ z. Option ℕ) [ true ↦ some k | false ↦ firstFrom q (suc k) l ]) ≡ some i → FirstFrom (x ∷ l) k i
+      go : (firstFrom q (suc k) l ≡ some i → From (FirstAt q d l) (suc k) i) → (b : Bool) → q x ≡ b → (elim b as (λ z. Option ℕ) [ true ↦ some k | false ↦ firstFrom q (suc k) l ]) ≡ some i → From (FirstAt q d (x ∷ l)) k i
       go r true h e = record { at = 0; place = sym (Option·some-injective k i e) ∙ sym (add-zero k); so = record { within = omega arith; here = subst T (sym h) tt; before = λ j u. absurd (omega arith) } }
       go r false h e = let s = r e in record { at = suc (s .at); place = omega (arith, s .place); so = record { within = omega (arith, s .so .within); here = s .so .here; before = before s } }
         where
-          before : (s : FirstFrom l (suc k) i) (j : ℕ) → j < suc (s .at) → T (not (q (getD (x ∷ l) j d)))
+          before : (s : From (FirstAt q d l) (suc k) i) (j : ℕ) → j < suc (s .at) → T (not (q (getD (x ∷ l) j d)))
           before s zero u = subst (λ (b : Bool). T (not b)) (sym h) tt
           before s (suc j) u = s .so .before j (omega arith)
 
   pub first-at : (l : List A) {i : ℕ} → firstFrom q 0 l ≡ some i → FirstAt q d l i
-  first-at l {i} e = let s = first-from l 0 e in let p : s .at ≡ i = omega (arith, s .place) in rw (sym p) (s .so)
+  first-at l e = from-0 (first-from l 0 e)
 
   -- no two places are the first
   pub first-one : (l : List A) {i j : ℕ} → FirstAt q d l i → FirstAt q d l j → i ≡ j

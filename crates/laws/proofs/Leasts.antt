@@ -10,25 +10,23 @@ use lib.Signed.{_≤ℤ_, _<ℤ_, ltZ}
 use lib.ListN.{length, getD}
 use Rattle.laws.specs.Lists.{Least, lesser, leastFrom, LeastAt}
 use Rattle.laws.proofs.Order.{≤-refl, ≤-trans, <→≤, ≡→≤, antisymm, not-lt, lt-true, lt-false}
-use Rattle.laws.proofs.Firsts.{no-some}
-
--- what the least of l says where l's first element is number k
-pub record LeastFrom {A : Type 0} (g : A → ℤ) (d : A) (l : List A) (k : ℕ) (m : Least) : Type 0 where
-  pub at : ℕ
-  pub place : m .place ≡ k + at
-  pub so : LeastAt g d l at (m .value)
+use Rattle.laws.proofs.Firsts.{no-some, From, from-0}
 
 module _ {A : Type 0} (g : A → ℤ) (d : A) where
+  -- what the least of l says where l's first element is number k
+  abbrev LeastFrom : List A → ℕ → Least → Type 0
+  LeastFrom l k m = From (λ i. LeastAt g d l i (m .value)) k (m .place)
+
   -- the first element is no more than the least of the others, or it is
-  module _ (x : A) (l : List A) (k : ℕ) {b : Least} (r : LeastFrom g d l (suc k) b) where
-    stays : g x ≤ℤ b .value → LeastFrom g d (x ∷ l) k (record { place = k; value = g x })
+  module _ (x : A) (l : List A) (k : ℕ) {b : Least} (r : LeastFrom l (suc k) b) where
+    stays : g x ≤ℤ b .value → LeastFrom (x ∷ l) k (record { place = k; value = g x })
     stays h = record { at = 0; place = omega arith; so = record { within = omega arith; is = refl; least = least; first = λ j u. absurd (omega arith) } }
       where
         least : (j : ℕ) → j < length (x ∷ l) → g x ≤ℤ g (getD (x ∷ l) j d)
         least zero u = ≤-refl (g x)
         least (suc j) u = ≤-trans h (r .so .least j (omega arith))
 
-    yields : b .value <ℤ g x → LeastFrom g d (x ∷ l) k b
+    yields : b .value <ℤ g x → LeastFrom (x ∷ l) k b
     yields h = record { at = suc (r .at); place = omega (arith, r .place); so = record { within = omega (arith, r .so .within); is = r .so .is; least = least; first = first } }
       where
         least : (j : ℕ) → j < length (x ∷ l) → b .value ≤ℤ g (getD (x ∷ l) j d)
@@ -39,18 +37,18 @@ module _ {A : Type 0} (g : A → ℤ) (d : A) where
         first zero u = h
         first (suc j) u = r .so .first j (omega arith)
 
-    less : LeastFrom g d (x ∷ l) k (lesser (record { place = k; value = g x }) (some b))
+    less : LeastFrom (x ∷ l) k (lesser (record { place = k; value = g x }) (some b))
     less = go (ltZ (b .value) (g x)) refl
       where
-        go : (t : Bool) → ltZ (b .value) (g x) ≡ t → LeastFrom g d (x ∷ l) k (cond t b (record { place = k; value = g x }))
+        go : (t : Bool) → ltZ (b .value) (g x) ≡ t → LeastFrom (x ∷ l) k (cond t b (record { place = k; value = g x }))
         go true e = yields (lt-true e)
         go false e = stays (lt-false e)
 
-  least-from : (l : List A) (k : ℕ) {m : Least} → leastFrom g k l ≡ some m → LeastFrom g d l k m
+  least-from : (l : List A) (k : ℕ) {m : Least} → leastFrom g k l ≡ some m → LeastFrom l k m
   least-from [] k e = absurd (no-some e)
   least-from (x ∷ l) k {m} e = rw (sym (Option·some-injective _ m e)) (go l (leastFrom g (suc k) l) refl (λ b h. least-from l (suc k) h))
     where
-      go : (l : List A) (o : Option Least) → leastFrom g (suc k) l ≡ o → ((b : Least) → leastFrom g (suc k) l ≡ some b → LeastFrom g d l (suc k) b) → LeastFrom g d (x ∷ l) k (lesser (record { place = k; value = g x }) o)
+      go : (l : List A) (o : Option Least) → leastFrom g (suc k) l ≡ o → ((b : Least) → leastFrom g (suc k) l ≡ some b → LeastFrom l (suc k) b) → LeastFrom (x ∷ l) k (lesser (record { place = k; value = g x }) o)
       go [] none e r = record { at = 0; place = omega arith; so = record { within = omega arith; is = refl; least = one; first = λ j u. absurd (omega arith) } }
         where
           one : (j : ℕ) → j < length (x ∷ []) → g x ≤ℤ g (getD (x ∷ []) j d)
@@ -61,7 +59,7 @@ module _ {A : Type 0} (g : A → ℤ) (d : A) where
 
   -- ---- of a whole list
   pub least-some : (l : List A) {m : Least} → leastFrom g 0 l ≡ some m → LeastAt g d l (m .place) (m .value)
-  least-some l {m} e = let r = least-from l 0 e in let p : r .at ≡ m .place = omega (arith, r .place) in rw (sym p) (r .so)
+  least-some l {m} e = from-0 {S = λ i. LeastAt g d l i (m .value)} (least-from l 0 e)
 
   pub least-none : (l : List A) → leastFrom g 0 l ≡ none → length l ≡ 0
   least-none [] e = refl

@@ -6,7 +6,7 @@ ghost use Rattle.touches.specs.Touches.{Near, Small};
 ghost use Rattle.volume.specs.Volume.{mostGap, mostNormal, mostVolume, det2, minus, cross, dot, normal, inLine};
 ghost use Rattle.points.specs.Sizes.{Number, Vector};
 
-pub fn minus(p: Point, a: Point) -> Point
+fn minus(p: Point, a: Point) -> Point
     requires { ⌜ Near p × Near a ⌝ }
     ensures { λ r. ⌜ Vector mostGap (minus p a) r ⌝ }
 {

@@ -10,7 +10,7 @@ use Rattle.volume.specs.Volume.{Vol, normal, inLine}
 use Rattle.volume.specs.Triangle.{contains, inTriangle, onSegment}
 use Rattle.rules.specs.Faces.{Face, Places, faceVol, visible}
 use Rattle.rules.specs.Building.{seen, unseen, step, build, hull, volume}
-use Rattle.rules.specs.Placing.{outside, on, inside, worst, holds, firstHolding, firstPlane, lies}
+use Rattle.rules.specs.Placing.{outside, on, inside, astray, worst, holds, firstHolding, firstPlane, lies}
 
 abbrev at : ℤ → ℤ → ℤ → Point
 at x y z = record { x = x; y = y; z = z }
@@ -68,6 +68,12 @@ pub record Blocks : Type 0 where
   pub lies-outside : lies (places block) four (at (pos 10) (pos 10) (pos 10)) ≡ outside 3 (pos 2000)
   -- beside the paper's: on the planes of two faces and in front of a third
   pub lies-beyond : lies (places block) four (at (pos 20) o o) ≡ outside 3 (pos 1000)
+  -- in front of three faces, the two worst alike and not the first
+  pub lies-worst : lies (places block) four (at (negsuc 1) (negsuc 1) (negsuc 0)) ≡ outside 1 (pos 200)
+  -- on the flat side of two triangles: in the second one, and on the border; on the plane of one triangle alone and beyond it
+  pub lies-second : lies (places (and 10 10 0)) six (at (pos 9) (pos 9) o) ≡ on 5
+  pub lies-border : lies (places (and 10 10 0)) six (at (pos 5) (pos 5) o) ≡ on 0
+  pub lies-astray : lies (places block) (face 1 0 2 ∷ []) (at (pos 9) (pos 9) o) ≡ astray
 
 pub blocks : Blocks
 unfolding hull build step seen unseen volume visible faceVol Vol inLine normal lies worst holds firstHolding firstPlane contains inTriangle onSegment
@@ -85,4 +91,8 @@ blocks = record {
   lies-on = refl;
   lies-outside = refl;
   lies-beyond = refl;
+  lies-worst = refl;
+  lies-second = refl;
+  lies-border = refl;
+  lies-astray = refl;
 }
