@@ -22,7 +22,7 @@
      2  more than 64 touches
      3  a coordinate is out of range; the place is the first such touch's number
      4  flat: all touches lie in one plane (fewer than four touches always do)
-     5  the face table has no room for all faces of the hull
+     5  the face table has no room for all faces of the hull; never with room for 124
      6  the face table is empty, its length is no multiple of 3, it has more than 1344
         faces, or a touch number in it is not below the touch count; for a single face:
         such a touch number, or three corners in line
@@ -68,7 +68,9 @@ extern "C" {
 /* Builds the hull of the touches. Refusals in order: 1, 2, 3, 4, 5.
    out[2]: the count of faces. out[3]: six times the hull's volume.
    `faces` is lent: it then begins with out[2] faces. Its room is faces_len / 3 faces,
-   rounded down; a length that is no multiple of 3 is no fault here. */
+   rounded down; a length that is no multiple of 3 is no fault here. n touches give at
+   most 2 * n - 4 faces, so with room for these the call is never refused 5; room for
+   124 faces, 372 numbers, is enough for every list. */
 void chienlohup_build(const int32_t *touches, size_t touches_len,
                       uint16_t *faces, size_t faces_len, int64_t out[4]);
 

@@ -562,6 +562,12 @@ def fixed_build(rng):
     for made in (T, T + ((10, 10, 10),), tuple(solid[:64])):
         for length in range(3 * len(second.hull(made)) + 5):
             yield "B", flat_list(made), fill(rng, length, "H")
+    # On a bowl all are corners, so that there are as many faces as n touches can give: room for them, and for one less.
+    bowl = [(100 * x, 100 * y, x * x + y * y) for x, y in itertools.product(range(-4, 4), repeat=2)]
+    rng.shuffle(bowl)
+    for count in range(4, 65):
+        yield "B", flat_list(bowl[:count]), fill(rng, 3 * (2 * count - 4), "H")
+        yield "B", flat_list(bowl[:count]), fill(rng, 3 * (2 * count - 4) - 1, "H")
     # Four faces in the end, many on the way there: room for four is enough.
     small = [tuple(n // 10 for n in touch) for touch in solid[:30]]
     big = [(-FAR, -FAR, -FAR), (FAR, -FAR, -FAR), (0, FAR, -FAR), (0, 0, FAR)]

@@ -19,6 +19,9 @@ const MORE: [i32; 15] = [0, 0, 0, 10, 0, 0, 0, 10, 0, 0, 0, 10, 10, 10, 0];
 
 const SIX: [u16; 18] = [1, 0, 2, 1, 3, 0, 0, 3, 2, 2, 3, 4, 3, 1, 4, 1, 2, 4];
 
+// Six corners, and as many faces as six touches can give: 8.
+const OCTAHEDRON: [i32; 18] = [9, 0, 0, -9, 0, 0, 0, 9, 0, 0, -9, 0, 0, 0, 9, 0, 0, -9];
+
 // As wide as can be.
 const WIDE: [i32; 12] = [R, R, R, R, -R, -R, -R, R, -R, -R, -R, R];
 
@@ -112,6 +115,8 @@ fn rooms() {
     build(&T, &mut [7u16; 14]);
     build(&T, &mut [7u16; 0]);
     build(&LOW, &mut [7u16; 12]);
+    build(&OCTAHEDRON, &mut [7u16; 23]);
+    build(&OCTAHEDRON, &mut [7u16; 24]);
 }
 
 // Refusals 1 to 5, each before the next.
@@ -181,7 +186,7 @@ fn lines() {
 // Refusals 1, 2, 3, 6, 7, 17, each before the next.
 fn place_refusals() {
     let many = [0i32; TouchList::MOST * 3 + 3];
-    let long = [0u16; table::MOST + 3];
+    let long = [0u16; TouchList::MOST_FACES * 3 + 3];
     place(&T[..11], &FACES, 1, 1, 1);
     place(&many, &FACES, 1, 1, 1);
     place(&FAR, &FACES[..0], 1, 1, 1);

@@ -4,18 +4,19 @@ use mathlib.Core.Bool.{Bool, true, false, not}
 use mathlib.Core.List.{List, [], _∷_, _++_, map}
 use Prim.Native.Nat.{ℕ, _+_, _<_, _≤_}
 use native.Mathlib.Numerals.{add-one}
-use lib.ListN.{length, take, getD}
+use native.Mathlib.Omega.{arith}
+use lib.ListN.{length, take, drop, getD, length-append, take-append-drop}
 use lib.Seq.{take-suc, take-all}
-use Rattle.laws.specs.Lists.{In, onlyIf, put, keep, has}
+use Rattle.laws.specs.Lists.{In, onlyIf, put, keep, has, Laid}
 use Rattle.laws.proofs.Members.{keep-append, keep-ext}
+use Rattle.laws.proofs.Tables.{laid-then}
 use Rattle.rules.specs.Faces.{Face, Side, side, corner, reversed, sameSide, sidesOf, sides, border}
 use Rattle.rules.specs.Building.{cone}
 use Rattle.rules.specs.Demands.{CornersIn}
 use Rattle.rules.proofs.SideLaws.{in-sides}
 use Rattle.rules.proofs.FaceLaws.{side-corners}
 use Rattle.border.specs.Marks.{Marked, unmarked}
-use Rattle.border.specs.Cone.{Poured, coneSide, coneOn}
-use Rattle.border.proofs.PourLaws.{pour-then}
+use Rattle.border.specs.Cone.{coneSide, coneOn}
 
 -- the three sides of a face
 abbrev pub ab : Face → Side
@@ -62,12 +63,18 @@ module _ (t : Side → Bool) (k : ℕ) where
   pub cone-more : (w : List Face) (i : ℕ) → i < length w → coneOn t k (take (i + 1) w) ≡ coneOn t k (take i w) ++ coneOn t k (getD w i [] ∷ [])
   cone-more w i h = rw (add-one, take-suc w i [], cone-append (take i w) (getD w i [] ∷ []))
 
-  -- the three sides poured one after the other
-  pub face-poured : (f : Face) {at one two r : ℕ} {old first second last : List Face}
-      → Poured at (coneSide t k (ab f)) old one first → length first ≡ length old
-      → Poured one (coneSide t k (bc f)) first two second → length second ≡ length old
-      → Poured two (coneSide t k (ca f)) second r last → Poured at (coneOn t k (f ∷ [])) old r last
-  face-poured f x l y m z = rw (cone-face f) (pour-then (pour-then x l y) m z)
+  -- a first part of the faces has no longer a cone than all
+  cone-part : (w : List Face) (i : ℕ) → length (coneOn t k (take i w)) ≤ length (coneOn t k w)
+  cone-part w i = omega (arith, ap (λ (l : List Face). length (coneOn t k l)) (take-append-drop i w), ap length (cone-append (take i w) (drop i w)), length-append (coneOn t k (take i w)) (coneOn t k (drop i w)))
+
+  -- the three sides one after the other: how many faces they give, and all of them laid
+  pub face-length : (f : Face) → length (coneOn t k (f ∷ [])) ≡ length (coneSide t k (ab f)) + length (coneSide t k (bc f)) + length (coneSide t k (ca f))
+  face-length f = ap length (cone-face f) ∙ simp length-append refl
+
+  pub face-laid : (f : Face) {at one two r : ℕ} {old first second last : List Face} → at ≤ length old
+      → Laid at (coneSide t k (ab f)) old one first → Laid one (coneSide t k (bc f)) first two second → Laid two (coneSide t k (ca f)) second r last
+      → Laid at (coneOn t k (f ∷ [])) old r last
+  face-laid f b x y z = rw (cone-face f) (laid-then (laid-then x b y) b z)
 
 -- the sides of v whose reverse has no mark are its border
 module _ {v : List Face} {marks : List ℕ} {w k : ℕ} (m : Marked w k v marks) (c : (f : Face) → In f v → CornersIn (λ t. t < w) f) where
@@ -76,3 +83,8 @@ module _ {v : List Face} {marks : List ℕ} {w k : ℕ} (m : Marked w k v marks)
   cone-all i h =
       rw (take-all i v h) (ap (map (cone k)) (keep-ext (unmarked marks w k) (λ s. not (has sameSide (reversed s) (sides v))) (sides v)
       (λ s j. let f = in-sides v j in let e = side-corners (c (f .0) (f .1)) s (f .2) in ap not (m .test (s .to) (s .from) (e .1) (e .0)))))
+
+  -- what is laid for the first i faces, and for the next one, is part of it
+  pub cone-room : (i : ℕ) → i < length v → length (coneOn (unmarked marks w k) k (take i v)) + length (coneOn (unmarked marks w k) k (getD v i [] ∷ [])) ≤ length (map (cone k) (border v))
+  cone-room i h = let t = unmarked marks w k in
+      omega (arith, length-append (coneOn t k (take i v)) (coneOn t k (getD v i [] ∷ [])), ap length (cone-more t k v i h), cone-part t k v (i + 1), ap (λ (l : List Face). length (coneOn t k l)) (take-all (length v) v (omega arith)), ap length (cone-all (length v) (omega arith)))

@@ -8,16 +8,27 @@ use touches::TouchNo;
 ghost use mathlib.Core.List.{map};
 ghost use Prim.Native.Nat.{_+_, _<_, _≤_};
 ghost use lib.ListN.{length};
-ghost use Rattle.laws.specs.Lists.{In};
+ghost use Rattle.laws.specs.Lists.{In, onlyIf, Laid};
 ghost use Rattle.touches.specs.Limits.{mostTouches};
 ghost use Rattle.rules.specs.Faces.{Face, border};
 ghost use Rattle.rules.specs.Building.{cone};
 ghost use Rattle.rules.specs.Demands.{CornersIn};
 ghost use Rattle.border.specs.Marks.{MarkTable, Fresh};
-ghost use Rattle.border.specs.Cone.{Poured};
 
-// The cone from k over the border of the faces seen, from place at of the table on: the next free place, or the table's length
-// where it is full. The table of marks is for touches below w, and no mark in it is of k or a later touch.
+// Face f at the free place at, if it is wanted: the next free place.
+pub fn put(table: &mut [[u16; 3]], at: usize, f: [u16; 3], wanted: bool) -> usize
+    requires { ⌜ at + length (onlyIf wanted f) ≤ length (now table) ⌝ }
+    ensures { λ r. ⌜ Laid at (onlyIf wanted f) (now (table .entry)) r (now (table .exit)) ⌝ }
+{
+    if wanted {
+        table[at] = f;
+        return at + 1;
+    }
+    at
+}
+
+// The cone from k over the border of the faces seen, from the free place at on: the next free place. The table of marks is for
+// touches below w, and no mark in it is of k or a later touch.
 pub fn add_cone(
     table: &mut [[u16; 3]],
     at: usize,
@@ -27,8 +38,8 @@ pub fn add_cone(
     k: TouchNo,
 ) -> usize
     requires { ⌜ MarkTable w (now marks) × Fresh (k .0) (now marks) × ((f : Face) → In f (now seen) → CornersIn (λ t. t < w) f)
-        × (k .0 < mostTouches) × (at ≤ length (now table)) ⌝ }
-    ensures faces { λ r. ⌜ Poured at (map (cone (k .0)) (border (now (seen .entry)))) (now (table .entry)) r (now (table .exit)) ⌝ }
+        × (k .0 < mostTouches) × (at + length (map (cone (k .0)) (border (now seen))) ≤ length (now table)) ⌝ }
+    ensures faces { λ r. ⌜ Laid at (map (cone (k .0)) (border (now (seen .entry)))) (now (table .entry)) r (now (table .exit)) ⌝ }
     ensures marks { λ r. ⌜ Fresh (k .0 + 1) (now (marks .exit)) ⌝ }
 {
     mark_all(marks, w, seen, k);

@@ -11,7 +11,7 @@ use lib.Signed.{_≤ℤ_, _<ℤ_, ltZ-yes}
 use Rattle.laws.specs.Lists.{In}
 use Rattle.laws.proofs.Integers.{sum-is}
 use Rattle.laws.proofs.Ring.{lit, _:+_, _:*_, ring}
-use Rattle.laws.proofs.Order.{zs, pos-is, below-or, mul-pos-pos, mul-pos-neg}
+use Rattle.laws.proofs.Order.{zs, pos-is, below-or, four-zero, mul-pos-pos, mul-pos-neg}
 use Rattle.laws.proofs.Members.{here, there}
 use Rattle.touches.specs.declared.Point.{Point}
 use Rattle.volume.specs.Volume.{Vol, inLine}
@@ -21,7 +21,7 @@ use Rattle.rules.specs.Faces.{Face, Places, corner, faceVol}
 use Rattle.rules.specs.Start.{Start}
 use Rattle.rules.proofs.CornerLaws.{starters}
 use Rattle.rules.proofs.Hull.{Hull, off-line}
-use Rattle.cover.specs.Cones.{det, from, Centre}
+use Rattle.cover.specs.Cones.{det, from, Centre, rays}
 use Rattle.cover.proofs.DetLaws.{detE, fromE, cube-pos, from-parts}
 use Rattle.cover.proofs.Hits.{Outward}
 
@@ -53,11 +53,8 @@ mean-det a b c p q r s = ring (env (a ∷ b ∷ c ∷ p ∷ q ∷ r ∷ s ∷ []
 four-pos : (w x y z : ℤ) → pos 0 ≤ℤ w → pos 0 ≤ℤ x → pos 0 ≤ℤ y → pos 0 ≤ℤ z → (w ≡ pos 0 → x ≡ pos 0 → y ≡ pos 0 → z ≡ pos 0 → ⊥) → pos 0 <ℤ (w +ℤ x +ℤ y +ℤ z)
 four-pos w x y z hw hx hy hz n = go (below-or (w +ℤ x +ℤ y +ℤ z) (pos 0))
   where
-    nil : (w +ℤ x +ℤ y +ℤ z) ≤ℤ pos 0 → (w ≡ pos 0) × (x ≡ pos 0) × (y ≡ pos 0) × (z ≡ pos 0)
-    nil h = omega (arith, zs, sum-is w x, sum-is (w +ℤ x) y, sum-is (w +ℤ x +ℤ y) z, pos-is 0)
-
     go : ((w +ℤ x +ℤ y +ℤ z) ≤ℤ pos 0) ⊎ (pos 0 <ℤ (w +ℤ x +ℤ y +ℤ z)) → pos 0 <ℤ (w +ℤ x +ℤ y +ℤ z)
-    go (inl h) = let e = nil h in absurd (n (e .0) (e .1) (e .2) (e .3))
+    go (inl h) = let e = four-zero hw hx hy hz h in absurd (n (e .0) (e .1) (e .2) (e .3))
     go (inr h) = h
 
 -- ---- four times the mean of P, Q, R and S, and the touches as vectors from it
@@ -79,6 +76,7 @@ module _ (p : Places) (s : Start) (solid : Vol (p (s .P)) (p (s .Q)) (p (s .R)) 
     abbrev pub centre : Centre p done
     centre = record { w = pos 4; s = middle p s; positive = ltZ-yes tt; amid = λ a b c off h. behind a b c off (λ t i. h t (taken t i)) }
 
-    pub turned : {h : List Face} → Hull p done h → Outward (ray p s) h
-    unfolding faceVol
-    turned H f m = centre .amid (p (corner f 0)) (p (corner f 1)) (p (corner f 2)) (off-line H f m) (H .supporting f m)
+-- ---- seen from a centre every face of a hull is turned outward
+pub turned : {p : Places} {done : List ℕ} {h : List Face} (c : Centre p done) → Hull p done h → Outward (rays c) h
+unfolding faceVol
+turned {p} c H f m = c .amid (p (corner f 0)) (p (corner f 1)) (p (corner f 2)) (off-line H f m) (H .supporting f m)

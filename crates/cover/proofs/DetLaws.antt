@@ -86,7 +86,7 @@ cube-pos h = mul-pos-pos (mul-pos-pos h h) h
 
 module _ (w : ℤ) (s a b c q : Point) where
   -- a, b, c, q, s are the points 0 to 4, and w the variable 15
-  from-vol : Vol (from w s a) (from w s b) (from w s c) (from w s q) ≡ cube w *ℤ Vol a b c q
+  pub from-vol : Vol (from w s a) (from w s b) (from w s c) (from w s q) ≡ cube w *ℤ Vol a b c q
   unfolding Vol
   from-vol = ring (envWith w (a ∷ b ∷ c ∷ q ∷ s ∷ [])) (volE (at 0) (at 1) (at 2) (at 3)) (var 15 :* var 15 :* var 15 :* W 0 1 2 3) tt
     where

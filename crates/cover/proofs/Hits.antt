@@ -1,12 +1,12 @@
 -- How the cone over three vectors counts a place: 1 inside it, 0 elsewhere, and the other way where it is turned round.
-use mathlib.Core.Path.{_≡_, _∙_, ap, subst}
+use mathlib.Core.Path.{_≡_, sym, _∙_, ap, subst}
 use mathlib.Core.Logic.{_≢_}
 use mathlib.Core.Bool.{Bool, true, false, _&&_}
 use mathlib.Core.List.{List}
 use Prim.Native.Nat.{ℕ}
 use lib.Dec.{T}
 use lib.IntN.{ℤ, pos, negℤ}
-use lib.Signed.{_<ℤ_, <ℤ-irrefl}
+use lib.Signed.{_≤ℤ_, _<ℤ_, <ℤ-irrefl, leZ-yes, ltZ-yes}
 use Rattle.laws.specs.Numbers.{eqZ}
 use Rattle.laws.specs.Lists.{In, sumZ}
 use Rattle.laws.proofs.Tests.{and-both}
@@ -61,7 +61,7 @@ pub hit-turned : (x a b k : Point) → hit x b a k ≡ negℤ (hit x a b k)
 unfolding hit
 hit-turned x a b k = (λ i. counts (flipped a b k i) (flipped a b x i) (flipped k a x i) (flipped b k x i)) ∙ counts-turned (sg (det a b k)) (sg (det a b x)) (sg (det b k x)) (sg (det k a x))
 
--- ---- what a cone that is turned outward counts is inside
+-- ---- a cone that is turned outward counts what is inside, and nothing else
 ind-true : (b : Bool) → pos 0 <ℤ ind b → T b
 ind-true true h = tt
 ind-true false h = <ℤ-irrefl h
@@ -74,6 +74,19 @@ above-three x y z h =
 pub hit→ : (a b c x : Point) → pos 0 <ℤ det a b c → pos 0 <ℤ hit x a b c → (pos 0 <ℤ det a b x) × (pos 0 <ℤ det b c x) × (pos 0 <ℤ det c a x)
 unfolding hit
 hit→ a b c x up h = above-three (det a b x) (det b c x) (det c a x) (subst (λ (e : Sg). pos 0 <ℤ counts e (sg (det a b x)) (sg (det b c x)) (sg (det c a x))) (sg-above up) h)
+
+pub →hit : (a b c x : Point) → pos 0 <ℤ det a b c → pos 0 <ℤ det a b x → pos 0 <ℤ det b c x → pos 0 <ℤ det c a x → pos 0 <ℤ hit x a b c
+unfolding hit
+→hit a b c x up r s t = subst (λ (z : ℤ). pos 0 <ℤ z) (λ i. counts (sym (sg-above up) i) (sym (sg-above r) i) (sym (sg-above s) i) (sym (sg-above t) i)) (ltZ-yes tt)
+
+ind-nonneg : (b : Bool) → pos 0 ≤ℤ ind b
+ind-nonneg true = leZ-yes tt
+ind-nonneg false = leZ-yes tt
+
+pub hit-nonneg : (a b c x : Point) → pos 0 <ℤ det a b c → pos 0 ≤ℤ hit x a b c
+unfolding hit
+hit-nonneg a b c x up = subst (λ (e : Sg). pos 0 ≤ℤ counts e (sg (det a b x)) (sg (det b c x)) (sg (det c a x))) (sym (sg-above up))
+    (ind-nonneg (isAbove (sg (det a b x)) && (isAbove (sg (det b c x)) && isAbove (sg (det c a x)))))
 
 -- ---- a place on no plane through two touches, of the list l, that are not in line with the centre
 pub record Clear (v : Places) (l : List ℕ) (x : Point) : Type 0 where

@@ -1,4 +1,5 @@
 pub mod DetLaws
+pub mod Mixes
 pub mod Hits
 pub mod FaceCount
 pub mod Nearby
@@ -9,5 +10,11 @@ pub mod RunCount
 pub mod CoverLaws
 pub mod Blends
 pub mod MixedLaws
+pub mod OverlapLaws
 pub mod OrderLaws
+pub mod Heights
+pub mod Level
+pub mod Middle
+pub mod OneMiddle
+pub mod FewFaces
 pub mod Theorems

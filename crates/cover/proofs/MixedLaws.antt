@@ -12,13 +12,14 @@ use Rattle.laws.proofs.Ring.{o, one, var, _:+_, _:-_, _:*_, neg}
 use Rattle.laws.proofs.Certificates.{combine, eqn}
 use Rattle.touches.specs.declared.Point.{Point}
 use Rattle.volume.specs.Volume.{Vol}
-use Rattle.volume.specs.Triangle.{Mixture}
 use Rattle.volume.proofs.Axes.{X, Y, Z}
 use Rattle.rules.specs.Faces.{Face, Places, corner, faceVol}
 use Rattle.rules.specs.Demands.{OnOrInside, OnPlane}
-use Rattle.rules.proofs.Hull.{Hull, off-line}
+use Rattle.rules.proofs.Hull.{Hull}
 use Rattle.cover.specs.Cones.{Centre, Covers}
+use Rattle.cover.specs.Triangles.{InFace}
 use Rattle.cover.proofs.DetLaws.{cube, cube-pos}
+use Rattle.cover.proofs.CentreLaws.{turned}
 use Rattle.cover.proofs.Blends.{Blend, blend}
 
 -- ---- whole numbers
@@ -55,7 +56,7 @@ module _ {p : Places} {done : List ℕ} {h : List Face} (H : Hull p done h) (c :
   weightless = no-weight (sym (m .volume (at 0) (at 1) (at 2)) ∙ left)
       (corners-behind H c m (at 0) (at 1) (at 2) (H .supporting f (plane .1)))
       (mul-nonneg (<→≤ (cube-pos (c .positive))) (within (m .face) (m .face-in)))
-      (c .amid (at 0) (at 1) (at 2) (off-line H f (plane .1)) (H .supporting f (plane .1)))
+      (turned c H f (plane .1))
     where
       f : Face
       f = plane .0
@@ -69,7 +70,7 @@ module _ {p : Places} {done : List ℕ} {h : List Face} (H : Hull p done h) (c :
   total : m .whole ≡ m .i +ℤ m .j +ℤ m .k
   total = m .sum ∙ ap (λ (z : ℤ). m .i +ℤ m .j +ℤ m .k +ℤ z) weightless ∙ +ℤ-idr (m .i +ℤ m .j +ℤ m .k)
 
-  of-corners : Mixture (p (corner (m .face) 0)) (p (corner (m .face) 1)) (p (corner (m .face) 2)) q
+  of-corners : InFace p (m .face) q
   of-corners = record {
     i = m .i;
     j = m .j;
@@ -87,5 +88,5 @@ module _ {p : Places} {done : List ℕ} {h : List Face} (H : Hull p done h) (c :
       at n = p (corner (m .face) n)
 
 pub mixed : {p : Places} {done : List ℕ} {h : List Face} → Hull p done h → (c : Centre p done) → Covers c h → (q : Point) → OnOrInside p h q → OnPlane p h q →
-    (g : Face) × In g h × Mixture (p (corner g 0)) (p (corner g 1)) (p (corner g 2)) q
+    (g : Face) × In g h × InFace p g q
 mixed H c covers q within plane = let m = blend c covers q in (m .face, m .face-in, of-corners H c within plane m)

@@ -20,7 +20,7 @@ use Rattle.rules.proofs.Hull.{Hull}
 use Rattle.rules.proofs.StepLaws.{step-hull}
 use Rattle.rules.proofs.CornerLaws.{starters, start-solid}
 use Rattle.cover.proofs.Hits.{hits, Outward, Clear}
-use Rattle.cover.proofs.CentreLaws.{in-front, middle, ray, turned}
+use Rattle.cover.proofs.CentreLaws.{in-front, middle, ray, centre, turned}
 use Rattle.cover.proofs.StartCount.{Zero, start-count}
 use Rattle.cover.proofs.StepCount.{step-count}
 
@@ -37,7 +37,7 @@ exchanged a b c d = ring (a ∷ b ∷ c ∷ d ∷ []) (var 0 :+ var 1 :+ var 2 :
 module _ (p : Places) (s : Start) (solid : Vol (p (s .P)) (p (s .Q)) (p (s .R)) (p (s .S)) ≢ pos 0) {l : List ℕ} {x : Point} (g : Clear (ray p s) l x) (taken : (t : ℕ) → In t (starters s) → In t l) where
   -- the four starting faces, in either order of P and Q
   first-count : hits (ray p s) x (startFaces (corners p s)) ≡ pos 1
-  first-count = go (ltZ (pos 0) (Vol (p (s .P)) (p (s .Q)) (p (s .R)) (p (s .S)))) (turned p s solid (λ t i. i) (start-solid p s solid .hull))
+  first-count = go (ltZ (pos 0) (Vol (p (s .P)) (p (s .Q)) (p (s .R)) (p (s .S)))) (turned (centre p s solid (λ t i. i)) (start-solid p s solid .hull))
     where
       P-in : In (s .P) l
       P-in = taken (s .P) (here refl)
@@ -70,8 +70,8 @@ module _ (p : Places) (s : Start) (solid : Vol (p (s .P)) (p (s .Q)) (p (s .R)) 
   build-count H first inside [] more = refl
   build-count {done} {h} H first inside (k ∷ ks) more =
       build-count (step-hull H k) (λ t i. there (first t i)) (cons-each (λ t. In t l) (more k (here refl)) inside) ks (λ j i. more j (there i))
-      ∙ step-count g H k inside (more k (here refl)) (turned p s solid first H)
-      (λ f m t. in-front (pos 4) (middle p s) (p (corner f 0)) (p (corner f 1)) (p (corner f 2)) (p k) (ltZ-yes tt) (turned p s solid first H f m) (seen→ p k f t))
+      ∙ step-count g H k inside (more k (here refl)) (turned (centre p s solid first) H)
+      (λ f m t. in-front (pos 4) (middle p s) (p (corner f 0)) (p (corner f 1)) (p (corner f 2)) (p k) (ltZ-yes tt) (turned (centre p s solid first) H f m) (seen→ p k f t))
 
   pub run-count : (ks : List ℕ) → ((k : ℕ) → In k ks → In k l) → hits (ray p s) x (after p s ks) ≡ pos 1
   run-count ks more = build-count (start-solid p s solid .hull) (λ t i. i) taken ks more ∙ first-count

@@ -1,11 +1,11 @@
--- The cones of a face list, seen from a point among the touches: every direction is in one.
+-- The cones of a face list, seen from a point among the touches: every direction is in one, and inside one only.
 use mathlib.Core.Path.{_≡_}
 use mathlib.Core.Bool.{false}
 use mathlib.Core.List.{List}
 use Prim.Native.Nat.{ℕ}
 use lib.IntN.{ℤ, pos, _-ℤ_, _*ℤ_}
 use lib.Signed.{_≤ℤ_, _<ℤ_}
-use Rattle.laws.specs.Lists.{In}
+use Rattle.laws.specs.Lists.{In, Pw}
 use Rattle.touches.specs.declared.Point.{Point}
 use Rattle.volume.specs.Volume.{Vol, det3, inLine}
 use Rattle.rules.specs.Faces.{Face, Places, corner}
@@ -25,6 +25,13 @@ pub record InCone (v : Places) (f : Face) (x : Point) : Type 0 where
   pub bc : pos 0 ≤ℤ det (v (corner f 1)) (v (corner f 2)) x
   pub ca : pos 0 ≤ℤ det (v (corner f 2)) (v (corner f 0)) x
 
+-- the direction x is inside it, border left out
+pub record InsideCone (v : Places) (f : Face) (x : Point) : Type 0 where
+  pub outward : pos 0 <ℤ det (v (corner f 0)) (v (corner f 1)) (v (corner f 2))
+  pub ab : pos 0 <ℤ det (v (corner f 0)) (v (corner f 1)) x
+  pub bc : pos 0 <ℤ det (v (corner f 1)) (v (corner f 2)) x
+  pub ca : pos 0 <ℤ det (v (corner f 2)) (v (corner f 0)) x
+
 -- s / w is a point among the touches of the list done: behind every plane that has none of them in front
 pub record Centre (p : Places) (done : List ℕ) : Type 0 where
   pub w : ℤ
@@ -39,3 +46,7 @@ rays {p} c t = from (c .w) (c .s) (p t)
 -- every direction is in the cone of some face
 abbrev pub Covers : {p : Places} {done : List ℕ} → Centre p done → List Face → Type 0
 Covers c h = (x : Point) → (f : Face) × In f h × InCone (rays c) f x
+
+-- no direction is inside the cones of two faces
+abbrev pub Once : {p : Places} {done : List ℕ} → Centre p done → List Face → Type 0
+Once c h = Pw (λ f g. (x : Point) → InsideCone (rays c) f x → InsideCone (rays c) g x → ⊥) h

@@ -1,2 +1,4 @@
 pub mod Cones
+pub mod Triangles
+pub mod Room
 pub mod Sets

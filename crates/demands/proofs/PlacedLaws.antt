@@ -8,6 +8,7 @@ use Prim.Native.Nat.{ℕ}
 use native.Mathlib.Omega.{arith}
 use lib.IntN.{ℤ}
 use lib.ListN.{getD}
+use Rattle.laws.proofs.Members.{getD-in}
 use Rattle.touches.specs.declared.FaceNo.{FaceNo}
 use Rattle.touches.specs.declared.Point.{Point}
 use Rattle.touches.specs.declared.Refusal.{Refusal}
@@ -22,17 +23,18 @@ use Rattle.rules.specs.Placing.{Lies, outside, on, inside, astray, lies}
 use Rattle.rules.specs.Demands.{OnOrInside, Astray, onCase, caseBefore, caseOf}
 use Rattle.rules.proofs.HoldsLaws.{holds-exact}
 use Rattle.rules.proofs.PlaceLaws.{lies-worst, lies-outside, lies-on, lies-inside, lies-astray, lies-within, same-cases}
-use Rattle.cover.proofs.Theorems.{never-astray}
+use Rattle.cover.specs.Triangles.{InsideOneOrOnBorder}
+use Rattle.cover.proofs.Theorems.{never-astray, hull-inside-one}
 use Rattle.table.specs.Table.{facesIn, usable}
 use Rattle.hull.specs.Place.{placedBy, placed}
 use Rattle.hull.specs.declared.place.Placed.{Placed}
 use Rattle.hull.specs.declared.place.Placed.the-variants.{On, Inside, Refused as PlaceRefused}
 use Rattle.hull.proofs.Inversion.{Inverted}
 use Rattle.hull.proofs.CallLaws.{by-inside, by-on, by-outside}
-use Rattle.demands.specs.Demands.{first, never, at0, place, caseAnswered, IsPlaced}
+use Rattle.demands.specs.Demands.{first, never, at0, front, triangles, place, caseAnswered, IsPlaced}
 use Rattle.demands.proofs.FirstLaws.{past}
 use Rattle.demands.proofs.CallFirsts.{place-never, place-first}
-use Rattle.demands.proofs.BuiltLaws.{place-is}
+use Rattle.demands.proofs.BuiltLaws.{triangles-are, place-is}
 
 -- 01's case of an answer is that of the rules
 by-case : (l : Lies) → (l ≡ astray → ⊥) → caseAnswered (placedBy l) ≡ some (caseOf l)
@@ -104,3 +106,13 @@ module _ {cs : List ℤ} {old : List ℕ} {n : ℕ} {v : ℤ} {h : List Face} (i
       from (inl e) = inl (place-is i q w ∙ ap placedBy e)
       from (inr (inl u)) = inr (faceNo (u .0), place-is i q w ∙ ap placedBy (u .1))
       from (inr (inr e)) = absurd (not-astray e)
+
+-- ---- the triangle that on names
+pub inside-one : {cs : List ℤ} {old : List ℕ} {n : ℕ} {v : ℤ} {h : List Face} → Inverted cs old n v h → (q : Point) (f : FaceNo) → place cs old q ≡ On f → InsideOneOrOnBorder (touch cs) (triangles cs old) (getD (triangles cs old) (f .0) []) q
+inside-one {cs} {old} {n} {v} {h} i q f e = hull-inside-one (touch cs) (touchCount cs) (i .is ∙ ap some (sym (triangles-are i))) (getD-in (triangles cs old) (f .0) [] (a .on f .0 e .1 .within)) (a .contained f e)
+  where
+    not-refused : (r : Refusal) → place cs old q ≡ PlaceRefused r → ⊥
+    not-refused r k = let z : _≡_ {A = ℕ} 0 1 = cc in omega arith
+
+    a : IsPlaced cs (front cs old) q (place cs old q)
+    a = placings cs (front cs old) q not-refused

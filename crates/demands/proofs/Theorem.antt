@@ -15,11 +15,11 @@ use Rattle.demands.specs.Demands.{Demands}
 use Rattle.demands.proofs.ListLaws.{check-first}
 use Rattle.demands.proofs.CallFirsts.{build-first, place-first, plane-first, reading-first, plumb-first}
 use Rattle.demands.proofs.RecordFirsts.{read-first, write-first, copy-first}
-use Rattle.demands.proofs.BuiltLaws.{is-hull, flat-is}
+use Rattle.demands.proofs.BuiltLaws.{is-hull, flat-is, room-enough, room-always}
 use Rattle.demands.proofs.GrowLaws.{grows, never-flat}
 use Rattle.demands.proofs.ExactLaws.{volume-exact, planes-exact, readings-exact}
 use Rattle.demands.proofs.TripLaws.{trip-list, trip-record}
-use Rattle.demands.proofs.PlacedLaws.{placings, astray-on, hull-answers}
+use Rattle.demands.proofs.PlacedLaws.{placings, astray-on, hull-answers, inside-one}
 use Rattle.demands.proofs.SameLaws.{same-case, same-flat}
 use Rattle.demands.proofs.PlumbLineLaws.{plumb-line}
 
@@ -40,6 +40,8 @@ demands = record {
   write-untouched = λ cs old r e. ap (λ (a : WriteAnswer). bufferAfter a (recordOf plainVersion cs) old) e;
   copy-untouched = λ b old r e. ap (λ (a : WriteAnswer). bufferAfter a b old) e;
   hull = λ cs old n v e. is-hull (inverted cs old e .1);
+  room-enough = room-enough;
+  room-always = room-always;
   flat = flat-is;
   written-read = trip-list;
   read-written = trip-record;
@@ -52,6 +54,7 @@ demands = record {
   placings = placings;
   astray-on = astray-on;
   never-astray = λ cs old n v e q near. hull-answers (inverted cs old e .1) q (near-place q near);
+  inside-one = λ cs old n v e. inside-one (inverted cs old e .1);
   order = λ L M old new n m v w same e f q near. same-case (inverted L old e .1) (inverted M new f .1) same q (near-place q near);
   order-flat = same-flat;
   plumb-line = λ cs old n v x y e hx hy. plumb-line (inverted cs old e .1) x y hx hy;

@@ -22,12 +22,13 @@ use Rattle.touches.specs.Touches.{touch, touchCount, Near, Sound, FirstStray}
 use Rattle.touches.specs.Refusals.{coordinatesNotInThrees, tooManyTouches, coordinateOutOfRange, allTouchesOnOnePlane, faceTableTooSmall, noSuchFace, placeOutOfRange, placeInNoTriangle, recordLengthWrong, recordVersionUnknown, recordTouchCutShort, touchRoomTooSmall, recordRoomTooSmall, because, noRefusal}
 use Rattle.touches.specs.Check.{checked, checkedRefusal, checkedCount}
 use Rattle.volume.specs.Volume.{Vol, normal, offset, inLine}
-use Rattle.volume.specs.Triangle.{Mixture}
 use Rattle.rules.specs.Faces.{Face, corner}
 use Rattle.rules.specs.Building.{volume}
 use Rattle.rules.specs.Demands.{Flat, Closed, FaceOf, OnOrInside, Inside as BehindAll, Outside as InFrontOfSome, Worst, FirstHolding, Astray, Case, outsideCase, onCase, insideCase, caseBefore}
 use Rattle.rules.specs.Plumb.{Fraction}
 use Rattle.rules.specs.Heights.{over, whole, AtMost, Below, Equal, NoneRefuses, Spans}
+use Rattle.cover.specs.Triangles.{InFace, NoOverlap, InsideOneOrOnBorder}
+use Rattle.cover.specs.Room.{enough}
 use Rattle.cover.specs.Sets.{SamePlaces}
 use Rattle.table.specs.Table.{stride, room, firstFaces, facesIn}
 use Rattle.hull.specs.Build.{hullOf, built, tableAfter, builtCount}
@@ -187,10 +188,13 @@ pub record IsHull (cs : List ℤ) (old : List ℕ) (n : ℕ) (v : ℤ) : Type 0 
   -- a face is three touches of the list, not in line
   pub corners : (f : Face) → In f (triangles cs old) → FaceOf cs f
   pub off-line : (f : Face) → In f (triangles cs old) → inLine (touch cs (corner f 0)) (touch cs (corner f 1)) (touch cs (corner f 2)) ≡ false
-  -- n counts the triangles: at most the lent room, and at most 1,344
+  -- no two triangles overlap
+  pub no-overlap : NoOverlap (touch cs) (triangles cs old)
+  -- n counts the triangles: at most the lent room, and of t touches at most 2t − 4, so at most 124
   pub count : n ≡ length (triangles cs old)
   pub fits : n ≤ room old
-  pub most : n ≤ mostFaces
+  pub few : n ≤ enough (touchCount cs)
+  pub most : n ≤ enough mostTouches
   -- v is the sum of V(face, touch 0), and above zero
   pub sum : v ≡ volume (touch cs) (triangles cs old)
   pub positive : pos 0 <ℤ v
@@ -240,7 +244,7 @@ pub record IsPlaced (cs : List ℤ) (t : List ℕ) (q : Point) (a : Placed) : Ty
   pub inside : (a ≡ Inside) ↔ BehindAll (touch cs) (facesIn t) q
   -- on names the first face whose plane holds q and whose triangle contains it: q is a mixture of its corners
   pub on : (f : FaceNo) → (a ≡ On f) ↔ (OnOrInside (touch cs) (facesIn t) q × FirstHolding (touch cs) (facesIn t) q (f .0))
-  pub contained : (f : FaceNo) → a ≡ On f → let g = getD (facesIn t) (f .0) [] in Mixture (touch cs (corner g 0)) (touch cs (corner g 1)) (touch cs (corner g 2)) q
+  pub contained : (f : FaceNo) → a ≡ On f → InFace (touch cs) (getD (facesIn t) (f .0) []) q
   -- the places are those of 01's three cases
   pub as-before : caseAnswered a ≡ some (caseBefore (touch cs) (facesIn t) q)
   -- outside names the face with the least V, the first of equals, and gives minus that V
@@ -292,6 +296,9 @@ pub record Demands : Type 0 where
   pub copy-untouched : (b old : List ℕ) (r : Refusal) → copied b old ≡ WriteRefused r → afterCopy b old ≡ old
   -- 2. the triangle list is the textbook's, closed, with every touch on or behind every face
   pub hull : (cs : List ℤ) (old : List ℕ) (n : ℕ) (v : ℤ) → built cs old ≡ Hull n v → IsHull cs old n v
+  -- a lent table with room for 2n − 4 faces is never refused 5, n being the touch count, nor is one with room for 124
+  pub room-enough : (cs : List ℤ) (old : List ℕ) → enough (touchCount cs) ≤ room old → built cs old ≡ Refused (because faceTableTooSmall) → ⊥
+  pub room-always : (cs : List ℤ) (old : List ℕ) → enough mostTouches ≤ room old → built cs old ≡ Refused (because faceTableTooSmall) → ⊥
   -- flat exactly if every four touches have volume zero, of a list that passes 1 to 3
   pub flat : (cs : List ℤ) (old : List ℕ) → (built cs old ≡ Refused (because allTouchesOnOnePlane)) ↔ (Sound cs × AllFlat cs)
   -- a list written and read back is the same list, where the list it is read into has room
@@ -315,6 +322,9 @@ pub record Demands : Type 0 where
   pub astray-on : (cs : List ℤ) (t : List ℕ) (q : Point) → placed cs t q ≡ PlaceRefused (because placeInNoTriangle) → caseBefore (touch cs) (facesIn t) q ≡ onCase
   -- against what building wrote no place in range is refused
   pub never-astray : (cs : List ℤ) (old : List ℕ) (n : ℕ) (v : ℤ) → built cs old ≡ Hull n v → (q : Point) → Near q → (r : Refusal) → place cs old q ≡ PlaceRefused r → ⊥
+  -- a place on it is inside the triangle that placing names and in no other, border included, or on the border of that triangle
+  pub inside-one : (cs : List ℤ) (old : List ℕ) (n : ℕ) (v : ℤ) → built cs old ≡ Hull n v → (q : Point) (f : FaceNo) → place cs old q ≡ On f
+      → InsideOneOrOnBorder (touch cs) (triangles cs old) (getD (triangles cs old) (f .0) []) q
   -- 02 A12: two lists over one set of positions, in any order and with any repeats: each place in range is inside, on or outside alike
   pub order : (L M : List ℤ) (old new : List ℕ) (n m : ℕ) (v w : ℤ) → SameTouches L M → built L old ≡ Hull n v → built M new ≡ Hull m w
       → (q : Point) → Near q → caseAnswered (place L old q) ≡ caseAnswered (place M new q)

@@ -1,5 +1,5 @@
 -- Building: what the hull of a checked list has, and the answer by its cases.
-use mathlib.Core.Path.{_≡_, sym, ap, subst, _∙_}
+use mathlib.Core.Path.{_≡_, refl, sym, ap, _∙_}
 use mathlib.Core.Bool.{Bool}
 use mathlib.Core.List.{List, [], _∷_}
 use mathlib.Core.Option.{some}
@@ -22,14 +22,14 @@ use Rattle.rules.specs.Faces.{Face, Places}
 use Rattle.rules.specs.Building.{volume}
 use Rattle.rules.specs.Start.{Start as Four}
 use Rattle.rules.proofs.AfterLaws.{hull-built, hull-some}
-use Rattle.rules.proofs.Theorems.{start-order, hull-surface, most-faces, accepted-few}
+use Rattle.rules.proofs.Theorems.{start-order, hull-surface, accepted-few}
+use Rattle.cover.specs.Room.{enough}
+use Rattle.cover.proofs.Theorems.{hull-few}
 use Rattle.border.specs.Marks.{MarkTable, Fresh}
 use Rattle.points.specs.Whole.{planeOn}
 use Rattle.hull.specs.Build.{hullOf, builtFrom}
 use Rattle.hull.specs.Whole.{Planed}
-use Rattle.hull.specs.Inner.{Ready, Begun, Taken, Builds, Tries}
-use Rattle.hull.specs.declared.rooms.Tried.{Tried}
-use Rattle.hull.specs.declared.rooms.Tried.the-variants.{Done, Full}
+use Rattle.hull.specs.Inner.{Ready, Begun, Taken, Builds}
 use Rattle.hull.specs.declared.build.Built.{Built}
 use Rattle.hull.specs.declared.build.Built.the-variants.{Hull, Refused}
 
@@ -42,8 +42,8 @@ module _ {cs : List ℤ} (d : Sound cs) {h : List Face} (e : hullOf cs ≡ some 
     touch = omega (arith, start-order (touch cs) (touchCount cs) (hull-built (touch cs) (touchCount cs) e .1));
   }
 
-  pub hull-few : length h ≤ mostFaces
-  hull-few = most-faces (touch cs) (touchCount cs) (accepted-few d) e
+  pub hull-most : length h ≤ mostFaces
+  hull-most = omega (arith, hull-few (touch cs) (touchCount cs) e, accepted-few d)
 
 -- ---- the answer: refusal 5 or the hull
 module _ (p : Places) (n : ℕ) (h : List Face) where
@@ -56,6 +56,10 @@ module _ (p : Places) (n : ℕ) (h : List Face) where
   pub given : length h ≤ n → {v : ℤ} → v ≡ volume p h → Hull (length h) v ≡ builtFrom p n (some h)
   given l e = ap (Hull (length h)) e ∙ by-room (le-leb (length h) n l)
 
+-- with room for 2n − 4 faces the hull is never refused
+pub room-enough : (cs : List ℤ) {h : List Face} → hullOf cs ≡ some h → {n : ℕ} → enough (touchCount cs) ≤ n → Hull (length h) (volume (touch cs) h) ≡ builtFrom (touch cs) n (some h)
+room-enough cs {h} e {n} b = given (touch cs) n h (le-trans (hull-few (touch cs) (touchCount cs) e) b) refl
+
 -- ---- the faces at the front of a table after the last touch
 module _ {cs : List ℤ} {s : Four} (b : Begun cs s) {m : ℕ} {table : List Face} {planes : List (List ℤ)} (t : Taken cs s (touchCount cs) m table planes) where
   pub front-hull : hullOf cs ≡ some (take m table)
@@ -66,7 +70,7 @@ module _ {cs : List ℤ} {s : Four} (b : Begun cs s) {m : ℕ} {table : List Fac
 
   -- what writing them asks
   pub front-asked : m ≤ length planes → Ready cs (take m table) 0 × Planed cs (length (take m table)) (take m table) planes × (length (take m table) ≤ length planes) × (length (take m table) ≤ mostFaces)
-  front-asked h = (hull-ready (b .sound) front-hull, planed, omega (arith, front-count), hull-few (b .sound) front-hull)
+  front-asked h = (hull-ready (b .sound) front-hull, planed, omega (arith, front-count), hull-most (b .sound) front-hull)
     where
       planed : Planed cs (length (take m table)) (take m table) planes
       planed = record { each = λ j l. let i : j < m = omega (arith, front-count) in record { is = t .planed .each j i .is ∙ ap (planeOn (touch cs)) (sym (getD-take m table j [] i)) } }
@@ -74,14 +78,6 @@ module _ {cs : List ℤ} {s : Four} (b : Begun cs s) {m : ℕ} {table : List Fac
   -- and what it gives
   pub front-builds : {old after : List ℕ} {r : Built} → Builds cs (some (take m table)) old r after → Builds cs (hullOf cs) old r after
   front-builds w = rw front-hull w
-
--- ---- what an attempt gave, by its two cases
-module _ {cs : List ℤ} {old mid : List ℕ} {t : Tried} (h : Tries cs old t mid) where
-  pub tried-done : {r : Built} → t ≡ Done r → Builds cs (hullOf cs) old r mid
-  tried-done e = subst (λ (x : Tried). Tries cs old x mid) e h
-
-  pub tried-full : t ≡ Full → {r : Built} {after : List ℕ} → Builds cs (hullOf cs) mid r after → Builds cs (hullOf cs) old r after
-  tried-full e {r} {after} b = subst (λ (l : List ℕ). Builds cs (hullOf cs) l r after) (subst (λ (x : Tried). Tries cs old x mid) e h) b
 
 -- ---- the work tables before the first touch: marks for n touches, all 1
 pub marks-for : {cs : List ℤ} {n : ℕ} {marks : List ℕ} → Sound cs → touchCount cs ≤ n → n * n ≤ length marks → MarkTable (touchCount cs) marks

@@ -24,7 +24,7 @@ use Rattle.table.proofs.UsableLaws.{faces-back, lent-usable}
 use Rattle.hull.specs.Build.{hullOf, built, tableAfter}
 use Rattle.hull.specs.Place.{placedBy, placed}
 use Rattle.hull.specs.declared.place.Placed.the-variants.{Outside, On, Inside}
-use Rattle.hull.proofs.BuildLaws.{hull-few}
+use Rattle.hull.proofs.BuildLaws.{hull-most}
 use Rattle.hull.proofs.PlaceLaws.{place-looked}
 use Rattle.hull.proofs.Inversion.{Inverted}
 
@@ -42,7 +42,7 @@ module _ {cs : List ℤ} (d : Sound cs) {h : List Face} (e : hullOf cs ≡ some 
   hull-back = faces-back cs h faces
 
   pub hull-usable : usable (touchCount cs) (lent h) ≡ true
-  hull-usable = lent-usable cs h faces (filled (touch cs) h (hull-surface (touch cs) (touchCount cs) e .positive)) (hull-few d e)
+  hull-usable = lent-usable cs h faces (filled (touch cs) h (hull-surface (touch cs) (touchCount cs) e .positive)) (hull-most d e)
 
 -- building was accepted: against the part of the table that it wrote, the placing call tells where q lies against the hull
 module _ {cs : List ℤ} {old : List ℕ} {n : ℕ} {v : ℤ} {h : List Face} (i : Inverted cs old n v h) where

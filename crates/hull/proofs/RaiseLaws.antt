@@ -1,33 +1,29 @@
 -- The faces of a table as touch after touch is taken: they stay faces over the touches, and there is room for them.
 use mathlib.Core.Path.{_≡_, refl, sym, ap, subst, _∙_}
-use mathlib.Core.Logic.{_⊎_, inl, inr}
-use mathlib.Core.Bool.{true, false, not, _&&_}
+use mathlib.Core.Bool.{true, false}
 use mathlib.Core.List.{List, []}
 use mathlib.Core.Option.{Option, none, some}
 use Prim.Native.Nat.{ℕ, zero, suc, _+_, _-_, _<_, _≤_}
 use native.Mathlib.Omega.{arith}
-use borrow.Author.Tests.{ltb-false}
-use lib.Dec.{T, ltb, ltb→lt}
 use lib.IntN.{ℤ}
 use lib.ListN.{length, take, getD}
 use lib.Seq.{getD-take}
 use Rattle.laws.specs.Lists.{In, Laid}
-use Rattle.laws.proofs.Tests.{T-or, is-true, is-false, T-of, and-both}
 use Rattle.laws.proofs.Members.{getD-in}
 use Rattle.laws.proofs.Tables.{laid-first}
-use Rattle.touches.specs.Limits.{mostFaces}
 use Rattle.touches.specs.Touches.{touch, touchCount, Sound}
 use Rattle.rules.specs.Faces.{Face}
 use Rattle.rules.specs.Start.{start, corners, startFaces, isStart, Start as Four}
 use Rattle.rules.specs.Building.{step, build, after, others}
 use Rattle.rules.proofs.AfterLaws.{others-upto, after-skip, after-step, hull-none}
-use Rattle.rules.proofs.Theorems.{start-order, steps-corners, steps-most, accepted-few}
+use Rattle.rules.proofs.Theorems.{start-order, steps-corners}
 use Rattle.rules.specs.Demands.{FaceOf}
-use Rattle.border.specs.Cone.{Poured}
+use Rattle.cover.specs.Room.{enough}
+use Rattle.cover.proofs.Theorems.{after-few}
 use Rattle.hull.specs.Start.{startOf, startedOf, nextOther, KnownStart}
 use Rattle.hull.specs.Build.{hullOf}
 use Rattle.hull.specs.Whole.{Planed}
-use Rattle.hull.specs.Inner.{Ready, Begun, Taken, Held, Tables}
+use Rattle.hull.specs.Inner.{Ready, Begun, Taken, Tables}
 use Rattle.hull.proofs.OtherLaws.{Next, next-first, next-after, next-within}
 use Rattle.hull.proofs.StepLaws.{marks-kept}
 use Rattle.hull.specs.declared.start.Start.{Start}
@@ -38,8 +34,8 @@ module _ {cs : List ℤ} {s : Four} (b : Begun cs s) {k : ℕ} (l : k ≤ touchC
   after-faces : (f : Face) → In f (after (touch cs) s (others s k)) → FaceOf cs f
   after-faces = steps-corners (touch cs) (touchCount cs) (b .begins) (others s k) (others-upto s l)
 
-  after-few : length (after (touch cs) s (others s k)) ≤ mostFaces
-  after-few = steps-most (touch cs) (touchCount cs) (b .begins) (others s k) (others-upto s l) (accepted-few (b .sound))
+  after-room : length (after (touch cs) s (others s k)) ≤ enough (touchCount cs)
+  after-room = after-few (touch cs) (touchCount cs) (b .begins) (others s k) (others-upto s l)
 
 -- ---- a touch of the start
 taken-skip : {cs : List ℤ} {s : Four} {k m : ℕ} {table : List Face} {planes : List (List ℤ)} → Taken cs s k m table planes → isStart s k ≡ true → Taken cs s (k + 1) m table planes
@@ -55,20 +51,11 @@ module _ {cs : List ℤ} {s : Four} (b : Begun cs s) {k m : ℕ} {table : List F
       step-is : step (touch cs) (take m table) k ≡ after (touch cs) s (others s (k + 1))
       step-is = ap (λ (h : List Face). step (touch cs) h k) (t .faces) ∙ sym (after-step (touch cs) s k e)
 
-      -- a step that was poured
-      pub held-step : {r : ℕ} {next : List Face} {beside : List (List ℤ)} → length next ≡ length table → Poured 0 (step (touch cs) (take m table) k) table r next
-          → (r < length table → Planed cs r next beside) → Held cs s (k + 1) r next beside
-      held-step {r} {next} n g p = record {
-        most = omega (arith, n, g .most);
-        taken = λ u. let w : r < length table = omega (arith, n) in let d = g .laid w in
-            record { count = omega (arith, d .next) ∙ ap length step-is; faces = laid-first d ∙ step-is; planed = p w };
-        room = λ u. let f : length (step (touch cs) (take m table) k) ≤ mostFaces = rw step-is (after-few b {k = k + 1} (omega arith)) in
-            omega (arith, n, g .fits (omega (arith, n, f)), f);
-      }
+      pub step-room : {seen : List Face} {marks : List ℕ} → Tables cs table planes seen marks → length (step (touch cs) (take m table) k) ≤ length table
+      step-room w = omega (arith, ap length step-is, after-room b {k = k + 1} (omega arith), w .room)
 
-  -- where the table is full nothing is said
-  pub held-full : Held cs s k m table planes → {n : ℕ} → length table ≤ m → Held cs s n m table planes
-  held-full h e = record { most = h .most; taken = λ u. absurd (omega arith); room = h .room }
+      pub taken-step : {r : ℕ} {next : List Face} {beside : List (List ℤ)} → Laid 0 (step (touch cs) (take m table) k) table r next → Planed cs r next beside → Taken cs s (k + 1) r next beside
+      taken-step g p = record { count = omega (arith, g .next) ∙ ap length step-is; faces = laid-first g ∙ step-is; planed = p }
 
   -- the touches from k on up to the next one that is not of the start
   taken-run : Taken cs s k m table planes → (d : ℕ) → ((j : ℕ) → k ≤ j → j < k + d → isStart s j ≡ true) → Taken cs s (k + d) m table planes
@@ -77,14 +64,10 @@ module _ {cs : List ℤ} {s : Four} (b : Begun cs s) {k m : ℕ} {table : List F
       let e : k + d + 1 ≡ k + suc d = omega arith in
       subst (λ (i : ℕ). Taken cs s i m table planes) e (taken-skip (taken-run t d (λ j a l. f j a (omega arith))) (f (k + d) (omega arith) (omega arith)))
 
-  pub held-next : Held cs s k m table planes → {r : ℕ} → Next s k r → Held cs s r m table planes
-  held-next h {r} o = record { most = h .most; taken = λ u. go (h .taken u); room = h .room }
-    where
-      e : k + (r - k) ≡ r
-      e = omega (arith, o .skips .from)
-
-      go : Taken cs s k m table planes → Taken cs s r m table planes
-      go t = subst (λ (i : ℕ). Taken cs s i m table planes) e (taken-run t (r - k) (λ j a l. o .skips .skipped j a (omega (arith, e))))
+  pub taken-next : Taken cs s k m table planes → {r : ℕ} → Next s k r → Taken cs s r m table planes
+  taken-next t {r} o =
+      let e : k + (r - k) ≡ r = omega (arith, o .skips .from) in
+      subst (λ (i : ℕ). Taken cs s i m table planes) e (taken-run t (r - k) (λ j a l. o .skips .skipped j a (omega (arith, e))))
 
 -- the next touch that is not of the start
 module _ {cs : List ℤ} {s : Four} (b : Begun cs s) where
@@ -97,22 +80,18 @@ module _ {cs : List ℤ} {s : Four} (b : Begun cs s) where
   pub begun-within : {k r : ℕ} → Next s k r → k ≤ touchCount cs → r ≤ touchCount cs
   begun-within h l = let o = start-order (touch cs) (touchCount cs) (b .begins) in next-within s (omega (arith, o)) (omega (arith, o)) (omega (arith, o)) (omega (arith, o)) h l
 
--- the loop's test: there is a touch left, and the table is not full
-pub goes-on : (k n m l : ℕ) → ltb k n && ltb m l ≡ true → (k < n) × (m < l)
-goes-on k n m l e = let t = and-both (ltb k n) (ltb m l) (T-of e) in (ltb→lt k n (t .0), ltb→lt m l (t .1))
+-- none is left below n
+pub taken-all : {cs : List ℤ} {s : Four} {k n m : ℕ} {table : List Face} {planes : List (List ℤ)} → Taken cs s k m table planes → k ≤ n → n ≤ k → Taken cs s n m table planes
+taken-all {cs} {s} {k} {n} {m} {table} {planes} t l h = let e : k ≡ n = omega arith in subst (λ (i : ℕ). Taken cs s i m table planes) e t
 
--- where it fails the touches below n are taken
-pub held-end : {cs : List ℤ} {s : Four} {k n m : ℕ} {table : List Face} {planes : List (List ℤ)} → Begun cs s → Held cs s k m table planes → k ≤ n → ltb k n && ltb m (length table) ≡ false → Held cs s n m table planes
-held-end {cs} {s} {k} {n} {m} {table} {planes} b h l e = go (T-or (ltb k n))
-  where
-    go : T (ltb k n) ⊎ T (not (ltb k n)) → Held cs s n m table planes
-    go (inl t) = held-full b h (ltb-false m (length table) (rw (is-true (ltb k n) t) at e))
-    go (inr t) = let q : k ≡ n = omega (arith, ltb-false k n (is-false (ltb k n) t)) in subst (λ (i : ℕ). Held cs s i m table planes) q h
+-- tables that building works in have room for the faces that are taken
+pub taken-room : {cs : List ℤ} {s : Four} {k m : ℕ} {table after seen : List Face} {planes beside : List (List ℤ)} {marks : List ℕ} → Begun cs s → Tables cs table planes seen marks → Taken cs s k m after beside → k ≤ touchCount cs → m ≤ length table
+taken-room b w t l = omega (arith, t .count, after-room b l, w .room)
 
 -- the tables keep their lengths
 pub tables-kept : {cs : List ℤ} {table table' seen seen' : List Face} {planes planes' : List (List ℤ)} {marks marks' : List ℕ} → Tables cs table planes seen marks
     → length table' ≡ length table → length planes' ≡ length planes → length seen' ≡ length seen → length marks' ≡ length marks → Tables cs table' planes' seen' marks'
-tables-kept t a b c d = record { planes-long = omega (arith, t .planes-long, a, b); seen-long = omega (arith, t .seen-long, a, c); mark-table = marks-kept (t .mark-table) d }
+tables-kept t a b c d = record { room = omega (arith, t .room, a); planes-long = omega (arith, t .planes-long, a, b); seen-long = omega (arith, t .seen-long, a, c); mark-table = marks-kept (t .mark-table) d }
 
 -- ---- the start
 start-some : (o : Option Four) {f : Start} → From f ≡ startedOf o → o ≡ some (startOf f)
@@ -137,14 +116,16 @@ module _ (cs : List ℤ) {n : ℕ} (c : n ≡ touchCount cs) where
 pub known-start : {cs : List ℤ} (f : Start) → Begun cs (startOf f) → KnownStart (touchCount cs) f
 known-start {cs} f b = let o = start-order (touch cs) (touchCount cs) (b .begins) in record { p = omega (arith, o); q = omega (arith, o); r = omega (arith, o); s = omega (arith, o) }
 
+pub start-room : {cs : List ℤ} {s : Four} {table seen : List Face} {planes : List (List ℤ)} {marks : List ℕ} → Begun cs s → Tables cs table planes seen marks → 4 ≤ length table
+unfolding build
+start-room b w = omega (arith, after-room b {k = 0} (omega arith), w .room)
+
 module _ {cs : List ℤ} {s : Four} (b : Begun cs s) {m : ℕ} {table : List Face} where
   -- the faces of the start are over the touches
   pub start-faces : {old : List Face} → Laid 0 (startFaces (corners (touch cs) s)) old m table → (j : ℕ) → j < m → FaceOf cs (getD table j [])
   unfolding build
   start-faces g j h = rw (← getD-take m table j [] h, laid-first g) (after-faces b {k = 0} (omega arith) (getD (startFaces (corners (touch cs) s)) j []) (getD-in (startFaces (corners (touch cs) s)) j [] (omega (arith, g .next))))
 
-  pub held-start : {planes : List (List ℤ)} {old : List Face} → Laid 0 (startFaces (corners (touch cs) s)) old m table → length table ≡ length old → 4 < length old → Planed cs m table planes → Held cs s 0 m table planes
+  pub taken-start : {planes : List (List ℤ)} {old : List Face} → Laid 0 (startFaces (corners (touch cs) s)) old m table → Planed cs m table planes → Taken cs s 0 m table planes
   unfolding build
-  held-start g n l p =
-      let e : m ≡ 4 = omega (arith, g .next) in
-      record { most = omega (arith, e, n); taken = λ _. record { count = omega (arith, g .next); faces = laid-first g; planed = p }; room = λ _. omega (arith, e, n) }
+  taken-start g p = record { count = omega (arith, g .next); faces = laid-first g; planed = p }

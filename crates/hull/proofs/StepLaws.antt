@@ -1,15 +1,15 @@
 -- A whole step: the faces that stay, and the cone after them.
 use mathlib.Core.Bool.{not}
 use mathlib.Core.List.{List, [], map}
-use Prim.Native.Nat.{ℕ, _<_, _≤_}
+use Prim.Native.Nat.{ℕ, _+_, _<_, _≤_}
 use native.Mathlib.Omega.{arith}
 use mathlib.Core.Path.{_≡_, sym, ap, subst, _∙_}
 use lib.IntN.{ℤ}
-use lib.ListN.{length, take, getD}
+use lib.ListN.{length, take, getD, length-append}
 use lib.Seq.{getD-take}
 use Rattle.laws.specs.Lists.{In, Laid}
 use Rattle.laws.proofs.Members.{in-keep, length-keep, getD-in}
-use Rattle.laws.proofs.Tables.{laid-before, laid-first}
+use Rattle.laws.proofs.Tables.{laid-before, laid-first, laid-then}
 use Rattle.touches.specs.Touches.{touch, touchCount}
 use Rattle.rules.specs.Faces.{Face, visible, border}
 use Rattle.rules.specs.Building.{cone, seen, unseen, step}
@@ -17,8 +17,6 @@ use Rattle.rules.specs.Demands.{CornersIn, FaceOf}
 use Rattle.rules.proofs.FaceLaws.{corners-map}
 use Rattle.rules.proofs.StepLaws.{step-corners}
 use Rattle.border.specs.Marks.{MarkTable}
-use Rattle.border.specs.Cone.{Poured}
-use Rattle.border.proofs.PourLaws.{pour-laid, pour-then}
 use Rattle.points.specs.Whole.{planeOn}
 use Rattle.hull.specs.Whole.{Planed}
 use Rattle.hull.specs.Inner.{Ready, PartOf}
@@ -40,9 +38,14 @@ module _ {cs : List ℤ} {h : List Face} {k m s : ℕ} {old mid front : List Fac
   unfolding seen
   front-faces l r f i = corners-map (λ t b. omega (arith, b)) (r .faces f (in-keep (visible (touch cs) k) h (subst (In f) (q .gone) i) .0))
 
-  pub step-poured : {r : ℕ} {after : List Face} → m ≤ length old → length mid ≡ length old → Poured m (map (cone k) (border (take s front))) mid r after → Poured 0 (step (touch cs) h k) old r after
+  -- the cone goes where the step has room for it
+  pub cone-room : {n : ℕ} → length (step (touch cs) h k) ≤ n → m + length (map (cone k) (border (take s front))) ≤ n
   unfolding step
-  step-poured b e c = pour-then (pour-laid (q .stay) b) e (rw (q .gone) at c)
+  cone-room b = rw (q .gone) (omega (arith, b, q .stay .next, length-append (unseen (touch cs) h k) (map (cone k) (border (seen (touch cs) h k)))))
+
+  pub step-laid : {r : ℕ} {after : List Face} → Laid m (map (cone k) (border (take s front))) mid r after → Laid 0 (step (touch cs) h k) old r after
+  unfolding step
+  step-laid c = laid-then (q .stay) (omega arith) (rw (q .gone) at c)
 
 -- the faces of a step are over the touches
 pub step-faces : {cs : List ℤ} {h : List Face} {k r : ℕ} {old after : List Face} → Ready cs h k → Laid 0 (step (touch cs) h k) old r after → (j : ℕ) → j < r → FaceOf cs (getD after j [])

@@ -10,7 +10,6 @@ use lib.ListN.{length, take}
 use Rattle.laws.specs.Lists.{In, Laid}
 use Rattle.touches.specs.declared.Point.{Point}
 use Rattle.touches.specs.declared.FaceNo.{FaceNo}
-use Rattle.touches.specs.Limits.{mostFaces}
 use Rattle.touches.specs.Touches.{touchCount, touch, Sound}
 use Rattle.touches.specs.Refusals.{placeInNoTriangle, because}
 use Rattle.touches.specs.Check.{pick}
@@ -18,13 +17,12 @@ use Rattle.rules.specs.Faces.{Face, faceVol}
 use Rattle.rules.specs.Start.{Start, start}
 use Rattle.rules.specs.Building.{seen, unseen, after, others}
 use Rattle.rules.specs.Demands.{FaceOf}
+use Rattle.cover.specs.Room.{enough}
 use Rattle.table.specs.Table.{room}
 use Rattle.border.specs.Marks.{MarkTable}
 use Rattle.hull.specs.Whole.{Planed}
-use Rattle.hull.specs.Build.{hullOf, builtFrom, tableAfter}
+use Rattle.hull.specs.Build.{builtFrom, tableAfter}
 use Rattle.hull.specs.declared.build.Built.{Built}
-use Rattle.hull.specs.declared.rooms.Tried.{Tried}
-use Rattle.hull.specs.declared.rooms.Tried.the-variants.{Done, Full}
 use Rattle.hull.specs.declared.place.Worst.{Worst}
 use Rattle.hull.specs.declared.place.First.{First}
 use Rattle.hull.specs.declared.place.First.the-variants.{Nowhere, At}
@@ -58,14 +56,9 @@ pub record Taken (cs : List ℤ) (s : Start) (k m : ℕ) (table : List Face) (pl
   pub faces : take m table ≡ after (touch cs) s (others s k)
   pub planed : Planed cs m table planes
 
--- the same while there was room: where m is the table's length it is of no use, which cannot be where every hull has room
-pub record Held (cs : List ℤ) (s : Start) (k m : ℕ) (table : List Face) (planes : List (List ℤ)) : Type 0 where
-  pub most : m ≤ length table
-  pub taken : m < length table → Taken cs s k m table planes
-  pub room : mostFaces < length table → m < length table
-
--- tables to build in for the touches cs: one length for all but the marks
+-- tables to build in for the touches cs, with room for every face list of every step: one length for all but the marks
 pub record Tables (cs : List ℤ) (table : List Face) (planes : List (List ℤ)) (seen : List Face) (marks : List ℕ) : Type 0 where
+  pub room : enough (touchCount cs) ≤ length table
   pub planes-long : length planes ≡ length table
   pub seen-long : length seen ≡ length table
   pub mark-table : MarkTable (touchCount cs) marks
@@ -74,11 +67,6 @@ pub record Tables (cs : List ℤ) (table : List Face) (planes : List (List ℤ))
 pub record Builds (cs : List ℤ) (h : Option (List Face)) (old : List ℕ) (r : Built) (after : List ℕ) : Type 0 where
   pub answer : r ≡ builtFrom (touch cs) (room old) h
   pub table : after ≡ tableAfter r h old
-
--- the same where the tables can be full: then there is no answer, and the lent table is as it was
-abbrev pub Tries : List ℤ → List ℕ → Tried → List ℕ → Type 0
-Tries cs old (Done r) after = Builds cs (hullOf cs) old r after
-Tries cs old Full after = after ≡ old
 
 -- the worst face once f is looked at, with its V
 abbrev pub worse : Worst → FaceNo → ℤ → Worst

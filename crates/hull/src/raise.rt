@@ -5,15 +5,13 @@ use crate::start::put_start;
 use crate::step::step;
 use crate::whole::put_planes;
 use touches::TouchNo;
-ghost use Prim.Native.Nat.{_<_};
-ghost use lib.ListN.{length};
 ghost use Rattle.touches.specs.Touches.{touchCount};
 ghost use Rattle.border.specs.Marks.{Fresh};
 ghost use Rattle.hull.specs.Start.{startOf};
-ghost use Rattle.hull.specs.Inner.{Begun, Held, Tables};
+ghost use Rattle.hull.specs.Inner.{Begun, Taken, Tables};
 
-// The hull of the touches at the front of the table, with its planes: the face count, or the table's length where there is no room.
-// Every touch that is not of the start is taken, by rising number, until the table is full.
+// The hull of the touches at the front of the table, with its planes: the face count. Every touch that is not of the start is taken,
+// by rising number.
 pub(crate) fn raise(
     table: &mut [[u16; 3]],
     planes: &mut [[i64; 4]],
@@ -23,14 +21,14 @@ pub(crate) fn raise(
     s: Start,
 ) -> usize
     requires { ⌜ Begun (now coords) (startOf s) × Tables (now coords) (now table) (now planes) (now seen) (now marks)
-        × Fresh 0 (now marks) × (4 < length (now table)) ⌝ }
-    ensures { λ r. ⌜ Held (now (coords .entry)) (startOf s) (touchCount (now (coords .entry))) r (now (table .exit)) (now (planes .exit)) ⌝ }
+        × Fresh 0 (now marks) ⌝ }
+    ensures { λ r. ⌜ Taken (now (coords .entry)) (startOf s) (touchCount (now (coords .entry))) r (now (table .exit)) (now (planes .exit)) ⌝ }
 {
     let n = coords.len() / 3;
     let mut m = put_start(table, coords, s);
     put_planes(planes, table, coords, 0, m);
     let mut k = next_other(s, 1);
-    while (k < n) & (m < table.len()) {
+    while k < n {
         m = step(table, planes, seen, marks, coords, m, TouchNo(k as u16));
         k = next_other(s, k + 1);
     }

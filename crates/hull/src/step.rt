@@ -3,6 +3,7 @@ use crate::whole::first_in_front;
 use crate::whole::in_front;
 use crate::whole::put_planes;
 use border::add_cone;
+use border::put;
 use points::touch::touch;
 use touches::TouchNo;
 ghost use mathlib.Core.Path.{_≡_};
@@ -12,7 +13,6 @@ ghost use Rattle.laws.specs.Lists.{onlyIf, lay, Laid};
 ghost use Rattle.touches.specs.Touches.{touch};
 ghost use Rattle.rules.specs.Building.{step};
 ghost use Rattle.border.specs.Marks.{Fresh};
-ghost use Rattle.border.specs.Cone.{Poured};
 ghost use Rattle.hull.specs.Whole.{Planed};
 ghost use Rattle.hull.specs.Inner.{Ready, PartOf, Tables};
 
@@ -20,18 +20,6 @@ ghost use Rattle.hull.specs.Inner.{Ready, PartOf, Tables};
 struct Parted {
     kept: usize,
     seen: usize,
-}
-
-// Face f at the free place at, if it is wanted: the next free place.
-fn put(table: &mut [[u16; 3]], at: usize, f: [u16; 3], wanted: bool) -> usize
-    requires { ⌜ at + length (onlyIf wanted f) ≤ length (now table) ⌝ }
-    ensures { λ r. ⌜ Laid at (onlyIf wanted f) (now (table .entry)) r (now (table .exit)) ⌝ }
-{
-    if wanted {
-        table[at] = f;
-        return at + 1;
-    }
-    at
 }
 
 // Plane p at place at, if it is wanted.
@@ -80,8 +68,8 @@ fn part(
     Parted { kept: m, seen: s }
 }
 
-// Touch k is taken. The face list was the first n faces of the table, with their planes, and is now the first r, r being the answer;
-// where r is the table's length there was no room. The table seen is room to work in.
+// Touch k is taken. The face list was the first n faces of the table, with their planes, and is now the first r, r being the answer.
+// The table seen is room to work in.
 pub(crate) fn step(
     table: &mut [[u16; 3]],
     planes: &mut [[i64; 4]],
@@ -92,18 +80,16 @@ pub(crate) fn step(
     k: TouchNo,
 ) -> usize
     requires { ⌜ Ready (now coords) (take n (now table)) (k .0) × Planed (now coords) n (now table) (now planes)
-        × Tables (now coords) (now table) (now planes) (now seen) (now marks) × Fresh (k .0) (now marks) × (n ≤ length (now table)) ⌝ }
-    ensures faces { λ r. ⌜ Poured 0 (step (touch (now (coords .entry))) (take n (now (table .entry))) (k .0)) (now (table .entry)) r (now (table .exit)) ⌝ }
-    ensures planes { λ r. ⌜ (r < length (now (table .entry)) → Planed (now (coords .entry)) r (now (table .exit)) (now (planes .exit))) ⌝ }
+        × Tables (now coords) (now table) (now planes) (now seen) (now marks) × Fresh (k .0) (now marks) × (n ≤ length (now table))
+        × (length (step (touch (now coords)) (take n (now table)) (k .0)) ≤ length (now table)) ⌝ }
+    ensures faces { λ r. ⌜ Laid 0 (step (touch (now (coords .entry))) (take n (now (table .entry))) (k .0)) (now (table .entry)) r (now (table .exit)) ⌝ }
+    ensures planes { λ r. ⌜ Planed (now (coords .entry)) r (now (table .exit)) (now (planes .exit)) ⌝ }
     ensures marks { λ r. ⌜ Fresh (k .0 + 1) (now (marks .exit)) ⌝ }
 {
     let w = coords.len() / 3;
     let p = part(table, planes, seen, coords, n, k);
     let m = p.seen;
     let r = add_cone(table, p.kept, &seen[..m], marks, w, k);
-    if r == table.len() {
-        return r;
-    }
     put_planes(planes, table, coords, p.kept, r);
     r
 }

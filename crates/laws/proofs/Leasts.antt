@@ -3,13 +3,14 @@ use mathlib.Core.Path.{_≡_, refl, sym}
 use mathlib.Core.Bool.{Bool, true, false, cond}
 use mathlib.Core.List.{List, [], _∷_}
 use mathlib.Core.Option.{Option, none, some, Option·some-injective}
-use Prim.Native.Nat.{ℕ, zero, suc, _+_, _<_}
+use Prim.Native.Nat.{ℕ, zero, suc, _<_}
 use native.Mathlib.Omega.{arith}
-use lib.IntN.{ℤ}
+use lib.IntN.{ℤ, negℤ}
 use lib.Signed.{_≤ℤ_, _<ℤ_, ltZ}
 use lib.ListN.{length, getD}
-use Rattle.laws.specs.Lists.{Least, lesser, leastFrom, LeastAt}
-use Rattle.laws.proofs.Order.{≤-refl, ≤-trans, <→≤, ≡→≤, antisymm, not-lt, lt-true, lt-false}
+use Rattle.laws.specs.Lists.{In, Least, lesser, leastFrom, LeastAt}
+use Rattle.laws.proofs.Order.{≤-refl, ≤-trans, <→≤, ≡→≤, antisymm, not-lt, neg-back, lt-true, lt-false}
+use Rattle.laws.proofs.Members.{getD-in, in-getD}
 use Rattle.laws.proofs.Firsts.{no-some, From, from-0}
 
 module _ {A : Type 0} (g : A → ℤ) (d : A) where
@@ -72,3 +73,16 @@ module _ {A : Type 0} (g : A → ℤ) (d : A) where
       let f : i < j → ⊥ = λ h. not-lt (≡→≤ e) (rw (a .is) at (b .first i h)) in
       let h : j < i → ⊥ = λ h. not-lt (≡→≤ (sym e)) (rw (b .is) at (a .first j h)) in
       (omega (arith, f, h), e)
+
+-- ---- a member with the least number, and one with the greatest
+module _ {A : Type 0} where
+  pub least-member : (g : A → ℤ) (l : List A) {x : A} → In x l → (y : A) × In y l × ((z : A) → In z l → g y ≤ℤ g z)
+  least-member g l {x} i = go (leastFrom g 0 l) refl
+    where
+      go : (o : Option Least) → leastFrom g 0 l ≡ o → (y : A) × In y l × ((z : A) → In z l → g y ≤ℤ g z)
+      go none e = absurd (omega (arith, least-none g x l e, in-getD l x i .1))
+      go (some m) e = let a = least-some g x l e in
+          (getD l (m .place) x, getD-in l (m .place) x (a .within), (λ z j. let k = in-getD l x j in ≤-trans (≡→≤ (a .is)) (rw (k .2) at (a .least (k .0) (k .1)))))
+
+  pub greatest-member : (g : A → ℤ) (l : List A) {x : A} → In x l → (y : A) × In y l × ((z : A) → In z l → g z ≤ℤ g y)
+  greatest-member g l i = let m = least-member (λ z. negℤ (g z)) l i in (m .0, m .1, (λ z j. neg-back (m .2 z j)))

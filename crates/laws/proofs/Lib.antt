@@ -16,6 +16,7 @@ pub mod Leasts
 pub mod Turns
 pub mod Uses
 pub mod Pigeons
+pub mod Labels
 pub mod Checks
 pub mod Fractions
 pub mod Balance

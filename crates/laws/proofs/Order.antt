@@ -128,8 +128,15 @@ add-pos {a} {b} h k = omega (arith, zs, sum-is a b, pos-is 0)
 pub nonneg-add : {a b : ℤ} → pos 0 ≤ℤ a → pos 0 <ℤ b → pos 0 <ℤ (a +ℤ b)
 nonneg-add {a} {b} h k = omega (arith, zs, sum-is a b, pos-is 0)
 
+-- four numbers from 0 on whose sum is not above 0 are 0
+pub four-zero : {w x y z : ℤ} → pos 0 ≤ℤ w → pos 0 ≤ℤ x → pos 0 ≤ℤ y → pos 0 ≤ℤ z → (w +ℤ x +ℤ y +ℤ z) ≤ℤ pos 0 → (w ≡ pos 0) × (x ≡ pos 0) × (y ≡ pos 0) × (z ≡ pos 0)
+four-zero {w} {x} {y} {z} hw hx hy hz h = omega (arith, zs, sum-is w x, sum-is (w +ℤ x) y, sum-is (w +ℤ x +ℤ y) z, pos-is 0)
+
 pub neg-mono : {a b : ℤ} → a ≤ℤ b → negℤ b ≤ℤ negℤ a
 neg-mono {a} {b} h = omega (arith, zs, up-neg a, dn-neg a, up-neg b, dn-neg b)
+
+pub neg-back : {a b : ℤ} → negℤ b ≤ℤ negℤ a → a ≤ℤ b
+neg-back {a} {b} h = omega (arith, zs, up-neg a, dn-neg a, up-neg b, dn-neg b)
 
 pub neg-pos : {a : ℤ} → a <ℤ pos 0 → pos 0 <ℤ negℤ a
 neg-pos {a} h = omega (arith, zs, up-neg a, dn-neg a, pos-is 0)
@@ -153,6 +160,14 @@ below-or a b = go (decLe (up a + dn b) (up b + dn a))
     go : Dec (up a + dn b ≤ up b + dn a) → (a ≤ℤ b) ⊎ (b <ℤ a)
     go (yes h) = inl (→le h)
     go (no f) = inr (omega (arith, zs, f))
+
+-- of two numbers that differ one is less
+pub less-or : (a b : ℤ) → a ≢ b → (a <ℤ b) ⊎ (b <ℤ a)
+less-or a b n = go (below-or a b)
+  where
+    go : (a ≤ℤ b) ⊎ (b <ℤ a) → (a <ℤ b) ⊎ (b <ℤ a)
+    go (inl h) = let d : up a + dn b ≢ up b + dn a = λ e. n (→eq e) in inl (omega (arith, zs, d))
+    go (inr h) = inr h
 
 pub data Sign (z : ℤ) : Type 0 where
   minus : z <ℤ pos 0 → Sign z

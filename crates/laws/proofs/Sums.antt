@@ -3,18 +3,14 @@ use mathlib.Core.Path.{_≡_, refl, sym, _∙_, ap, ap₂, subst}
 use mathlib.Core.Logic.{_≢_, _⊎_, inl, inr}
 use mathlib.Core.Bool.{Bool, true, false, not}
 use mathlib.Core.List.{List, [], _∷_, _++_, map, List·Memᴰ·cases-cons, List·Memᴰ·not-nil, Memᴰ·cast}
-use Prim.Native.Nat.{ℕ, suc, _+_, _*_}
 use native.Mathlib.Omega.{arith}
-use lib.ListN.{length}
 use lib.Dec.{T, T-not, not-T}
 use lib.IntN.{ℤ, pos, negℤ, _+ℤ_, +ℤ-idr, +ℤ-idl, +ℤ-assoc, negℤ-+ℤ}
 use lib.Signed.{_≤ℤ_, _<ℤ_, <ℤ-irrefl}
-use Rattle.laws.specs.Numbers.{Within}
-use Rattle.laws.specs.Lists.{In, put, keep, has, Nodup, sumZ}
+use Rattle.laws.specs.Lists.{In, put, keep, has, Pw, Nodup, sumZ}
 use Rattle.laws.proofs.Tests.{not-not, →not-not}
 use Rattle.laws.proofs.Integers.{up-neg, dn-neg, sum-is, +ℤ-left-comm, +ℤ-swap}
 use Rattle.laws.proofs.Order.{zs, pos-is, ≤-refl, add-nonneg, add-pos, below-or}
-use Rattle.laws.proofs.WithinLaws.{within-add}
 use Rattle.laws.proofs.Members.{here, there, in-keep, keep-in, keep-all, Pw-keep, in-map, map-in, nodup-map, has→, →has, apart, apart→}
 
 pub sum-append : {A : Type 0} (g : A → ℤ) (l m : List A) → sumZ g (l ++ m) ≡ sumZ g l +ℤ sumZ g m
@@ -56,10 +52,16 @@ some-pos {A} g (x ∷ l) h = go (some-pos g l) (below-or (g x) (pos 0))
     go r (inl k) = let t = r (rest k) in (t .0, there (t .1), t .2)
     go r (inr k) = (x, here refl, k)
 
--- how large a sum can be
-pub sum-within : {A : Type 0} {B : ℕ} (g : A → ℤ) (l : List A) → ((x : A) → In x l → Within B (g x)) → Within (length l * B) (sumZ g l)
-sum-within g [] h = record { within = omega arith }
-sum-within {A} {B} g (x ∷ l) h = let e : B + length l * B ≡ suc (length l) * B = omega arith in subst (λ (n : ℕ). Within n (g x +ℤ sumZ g l)) e (within-add (h x (here refl)) (sum-within g l (λ y m. h y (there m))))
+-- of a family of sums, each at most 1 and with no term below 0: no two terms are above 0 at one x
+pub one-pos : {A X : Type 0} (g : X → A → ℤ) (l : List A) → ((x : X) → sumZ (g x) l ≤ℤ pos 1) → ((x : X) (a : A) → In a l → pos 0 ≤ℤ g x a) → Pw (λ a b. (x : X) → pos 0 <ℤ g x a → pos 0 <ℤ g x b → ⊥) l
+one-pos g [] most low = tt
+one-pos {A} {X} g (a ∷ l) most low = ((λ b m x h k. two x h (sum-pos (g x) l (λ c i. low x c (there i)) m k)), one-pos g l (λ x. rest x (low x a (here refl))) (λ x c i. low x c (there i)))
+  where
+    two : (x : X) → pos 0 <ℤ g x a → pos 0 <ℤ sumZ (g x) l → ⊥
+    two x h k = omega (arith, zs, most x, sum-is (g x a) (sumZ (g x) l), pos-is 0, pos-is 1)
+
+    rest : (x : X) → pos 0 ≤ℤ g x a → sumZ (g x) l ≤ℤ pos 1
+    rest x h = omega (arith, zs, most x, sum-is (g x a) (sumZ (g x) l), pos-is 0, pos-is 1)
 
 pub sum-map : {A B : Type 0} (g : B → ℤ) (f : A → B) (l : List A) → sumZ g (map f l) ≡ sumZ (λ x. g (f x)) l
 sum-map g f [] = refl

@@ -1,6 +1,7 @@
 -- Room for the longest listing. A 16-bit number has at most five digits, the volume's text at most twenty bytes.
 use Prim.Native.Nat.{ℕ, _+_, _*_}
-use Rattle.touches.specs.Limits.{mostFaces}
+use Rattle.touches.specs.Limits.{mostTouches}
+use Rattle.cover.specs.Room.{enough}
 
 -- a number or the volume, with the byte after it
 abbrev pub fieldRoom : ℕ
@@ -17,4 +18,4 @@ abbrev pub firstRoom : ℕ
 firstRoom = 5 + fieldRoom + volumeRoom
 
 abbrev pub listingRoom : ℕ
-listingRoom = firstRoom + mostFaces * faceRoom
+listingRoom = firstRoom + enough mostTouches * faceRoom

@@ -21,7 +21,7 @@ ghost use Rattle.lister.specs.Room.{fieldRoom, volumeRoom, faceRoom, fir
 pub const MOST_BYTES: usize = 65536;
 
 // Room for the longest listing: the first line, and a line a face.
-pub const ROOM: usize = 32 + TouchList::MOST_FACES * 18;
+pub const ROOM: usize = 32 + TouchList::ENOUGH_FACES * 18;
 
 fn put_word(out: &mut [u8], word: &[u8]) -> usize
     requires { ⌜ length (now word) ≤ length (now out) ⌝ }
@@ -100,7 +100,7 @@ fn put_built(out: &mut [u8], coords: &[i32]) -> usize
     requires { ⌜ length (now out) ≡ listingRoom ⌝ }
     ensures { λ r. ⌜ Laid 0 (hullText (now (coords .entry))) (now (out .entry)) r (now (out .exit)) ⌝ }
 {
-    let mut faces = [0u16; table::MOST];
+    let mut faces = [0u16; table::ENOUGH];
     match hull::build::build(coords, &mut faces) {
         Built::Refused(x) => put_refused(out, x),
         Built::Hull(n, v) => {

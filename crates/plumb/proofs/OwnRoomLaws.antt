@@ -1,4 +1,4 @@
--- Building into a table of the call's own, with room for every face: what it left, and that it refuses what the plumb line refuses.
+-- Building into a table of the call's own, with room for every hull: what it left, and that it refuses what the plumb line refuses.
 use mathlib.Core.Path.{_≡_, refl, sym, ap, subst, _∙_}
 use mathlib.Core.List.{List}
 use mathlib.Core.Option.{Option, none, some}
@@ -9,29 +9,31 @@ use lib.ListN.{length}
 use Rattle.touches.specs.declared.Refusal.{Refusal}
 use Rattle.touches.specs.declared.Checked.{Checked}
 use Rattle.touches.specs.declared.Checked.the-variants.{Accepted, Refused as CheckedRefused}
-use Rattle.touches.specs.Limits.{mostFaces}
+use Rattle.touches.specs.Limits.{mostTouches}
 use Rattle.touches.specs.Touches.{touch, Sound}
 use Rattle.touches.specs.Check.{checked, ifAccepted}
 use Rattle.touches.proofs.SoundLaws.{accepted-sound}
 use Rattle.rules.specs.Faces.{Face}
+use Rattle.rules.proofs.Theorems.{accepted-few}
+use Rattle.cover.specs.Room.{enough}
 use Rattle.table.specs.Table.{stride, room, lent, firstFaces}
 use Rattle.table.proofs.LentLaws.{room-laid}
 use Rattle.hull.specs.Build.{hullOf, builtFrom, built, tableAfter}
 use Rattle.hull.specs.declared.build.Built.{Built}
 use Rattle.hull.specs.declared.build.Built.the-variants.{Hull, Refused}
-use Rattle.hull.proofs.BuildLaws.{hull-few, given}
+use Rattle.hull.proofs.BuildLaws.{room-enough}
 use Rattle.hull.proofs.Inversion.{inverted}
 use Rattle.plumb.specs.Plumb.{plumbedOver, plumbed}
 use Rattle.plumb.specs.declared.Plumbed.the-variants.{Refused as LineRefused}
 
 -- a refusal of building is the plumb line's
-pub own-refused : (cs : List ℤ) (old : List ℕ) → mostFaces ≤ room old → (x y : ℤ) {r : Refusal} → built cs old ≡ Refused r → LineRefused r ≡ plumbed cs x y
+pub own-refused : (cs : List ℤ) (old : List ℕ) → enough mostTouches ≤ room old → (x y : ℤ) {r : Refusal} → built cs old ≡ Refused r → LineRefused r ≡ plumbed cs x y
 own-refused cs old w x y {r} e = list (checked cs) refl e
   where
     hull : Sound cs → (o : Option (List Face)) → hullOf cs ≡ o → builtFrom (touch cs) (room old) o ≡ Refused r → LineRefused r ≡ plumbedOver cs x y o
     hull d none i f = cc
     hull d (some h) i f =
-        let g = given (touch cs) (room old) h (omega (arith, hull-few d i)) refl ∙ f in
+        let g = room-enough cs i (omega (arith, w, accepted-few d)) ∙ f in
         let z : _≡_ {A = ℕ} 0 1 = cc in
         absurd (omega arith)
 

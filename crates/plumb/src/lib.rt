@@ -13,8 +13,9 @@ use touches::Point;
 use touches::Refusal;
 ghost use mathlib.Core.Path.{_≡_};
 ghost use Prim.Native.Nat.{_≤_};
-ghost use Rattle.touches.specs.Limits.{mostFaces};
+ghost use Rattle.touches.specs.Limits.{mostTouches};
 ghost use Rattle.rules.specs.Plumb.{between, readingOf};
+ghost use Rattle.cover.specs.Room.{enough};
 ghost use Rattle.table.specs.Table.{room};
 ghost use Rattle.plumb.specs.Fractions.{Ranged, ratio};
 ghost use Rattle.plumb.specs.Bounds.{boundsOf, RangedBounds};
@@ -66,9 +67,9 @@ fn reading(b: Bounds) -> Plumbed
     }
 }
 
-// With a table for all faces.
+// With a table that is enough for every hull.
 fn plumb_in(faces: &mut [u16], coords: &[i32], x: i64, y: i64) -> Plumbed
-    requires { ⌜ mostFaces ≤ room (now faces) ⌝ }
+    requires { ⌜ enough mostTouches ≤ room (now faces) ⌝ }
     ensures { λ r. ⌜ r ≡ plumbed (now (coords .entry)) x y ⌝ }
 {
     match hull::build::build(coords, faces) {
@@ -87,6 +88,6 @@ fn plumb_in(faces: &mut [u16], coords: &[i32], x: i64, y: i64) -> Plumbed
 pub fn plumb(coords: &[i32], x: i64, y: i64) -> Plumbed
     ensures { λ r. ⌜ r ≡ plumbed (now (coords .entry)) x y ⌝ }
 {
-    let mut faces = [0u16; table::MOST];
+    let mut faces = [0u16; table::ENOUGH];
     plumb_in(&mut faces, coords, x, y)
 }

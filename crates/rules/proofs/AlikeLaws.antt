@@ -17,8 +17,8 @@ use Rattle.rules.specs.Start.{Start, then, samePlace, findS, findR, star
 use Rattle.rules.specs.Building.{cone, seen, unseen, step, build, after, others, hull, volume}
 use Rattle.rules.specs.Demands.{CornersIn}
 use Rattle.rules.specs.Alike.{Alike}
+use Rattle.rules.proofs.Hull.{hull-corners}
 use Rattle.rules.proofs.StepLaws.{step-corners}
-use Rattle.rules.proofs.RoomLaws.{hull-corners}
 use Rattle.rules.proofs.StartLaws.{Started, started, differs, offLine, offPlane, from-0, S<n}
 use Rattle.rules.proofs.CornerLaws.{starters-below}
 use Rattle.rules.proofs.AfterLaws.{after-hull, taken-below, others-below, hull-built}

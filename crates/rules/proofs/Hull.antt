@@ -3,7 +3,7 @@ use mathlib.Core.Path.{_≡_, refl, sym, subst}
 use mathlib.Core.Logic.{_≢_, _⊎_, inl, inr}
 use mathlib.Core.Bool.{false}
 use mathlib.Core.List.{List}
-use Prim.Native.Nat.{ℕ}
+use Prim.Native.Nat.{ℕ, _<_}
 use lib.Dec.{not-T}
 use lib.IntN.{ℤ, pos}
 use lib.Signed.{_≤ℤ_, _<ℤ_}
@@ -72,6 +72,9 @@ module _ {p : Places} {done : List ℕ} {h : List Face} (H : Hull p done h) wher
   off-line f m = let b = H .body f m in
       is-false (inLine (p (corner f 0)) (p (corner f 1)) (p (corner f 2))) (not-T (inLine (p (corner f 0)) (p (corner f 1)) (p (corner f 2)))
       (λ t. pos-ne (b .2) (line-vol (p (corner f 0)) (p (corner f 1)) (p (corner f 2)) (p (b .0)) t)))
+
+  pub hull-corners : (n : ℕ) → ((t : ℕ) → In t done → t < n) → (f : Face) → In f h → CornersIn (λ t. t < n) f
+  hull-corners n below f m = corners-map below (H .corners f m)
 
   -- the invariant asks of the touches only which they are
   pub hull-touches : {all : List ℕ} → ((t : ℕ) → In t done → In t all) → ((t : ℕ) → In t all → In t done) → Hull p all h

@@ -5,7 +5,6 @@ pub mod Hull
 pub mod Horizon
 pub mod StepLaws
 pub mod GrowthLaws
-pub mod RoomLaws
 pub mod BuildLaws
 pub mod FourLaws
 pub mod StartLaws

@@ -3,10 +3,7 @@ use mathlib.Core.Path.{_≡_, refl, sym, subst}
 use mathlib.Core.Logic.{_⊎_, inl, inr}
 use mathlib.Core.Bool.{Bool}
 use mathlib.Core.List.{List, [], _∷_, List·Memᴰ·cases-cons, List·Memᴰ·not-nil}
-use Prim.Native.Nat.{_*_}
-use native.Mathlib.Omega.{arith}
 use lib.Dec.{T, eqb, eqb→eq, eqb-refl}
-use lib.ListN.{length}
 use Rattle.laws.specs.Lists.{In, keep, Pw}
 use Rattle.laws.proofs.Tests.{and-both, both-and}
 use Rattle.laws.proofs.Members.{here, there, all→, in-append, append-l, append-r, in-keep, Pw-keep, Pw-split, Pw-append}
@@ -43,10 +40,6 @@ sides-in (g ∷ h) {f} {s} m n = go (λ i. sides-in h i n) (List·Memᴰ·cases-
     go : (In f h → In s (sides h)) → (f ≡ g) ⊎ In f h → In s (sides (g ∷ h))
     go r (inl e) = append-l (sides h) (subst (λ (x : Face). In s (sidesOf x)) e n)
     go r (inr i) = append-r (sidesOf g) (r i)
-
-pub sides-length : (h : List Face) → length (sides h) ≡ 3 * length h
-sides-length [] = refl
-sides-length (f ∷ h) = omega (arith, sides-length h)
 
 -- ---- pairs, by faces: so filter, append and map act on faces
 abbrev pub Between : (Side → Side → Type 0) → Face → Face → Type 0

@@ -12,8 +12,7 @@ use Rattle.rules.specs.Faces.{Face, Places}
 use Rattle.rules.specs.Start.{corners}
 use Rattle.rules.specs.Building.{others, hull, volume}
 use Rattle.rules.specs.Demands.{Surface}
-use Rattle.rules.proofs.Hull.{Hull, hull-closed, off-line}
-use Rattle.rules.proofs.RoomLaws.{hull-corners, hull-room}
+use Rattle.rules.proofs.Hull.{Hull, hull-closed, off-line, hull-corners}
 use Rattle.rules.proofs.StartLaws.{started}
 use Rattle.rules.proofs.AfterLaws.{after-positive, hull-built, all-taken}
 
@@ -35,6 +34,5 @@ module _ (p : Places) (n : ℕ) {h : List Face} (e : hull p n ≡ some h) where
     behind = λ t l f m. whole-hull .supporting f m t (upward-in 0 n t (omega arith) (omega arith));
     body = λ f m. let t = whole-hull .body f m in (t .0, number-below (t .0) (t .1), t .2);
     off-line = off-line whole-hull;
-    room = hull-room whole-hull n number-below;
     positive = positive-volume;
   }

@@ -1,45 +1,37 @@
--- The theorems, as demands 2 and 3 state them. p says where the touches are and n how many there are; nothing else is asked of them, but for the bound of the volume.
+-- The theorems, as demands 2 and 3 state them. p says where the touches are and n how many there are; nothing else is asked of them.
 use mathlib.Core.Path.{_≡_, refl, sym, _∙_, ap, subst}
 use mathlib.Core.Logic.{_↔_, _⊎_, inl, inr}
 use mathlib.Core.List.{List, [], _∷_, _++_}
 use mathlib.Core.Option.{Option, none, some, Option·some-injective}
-use Prim.Native.Nat.{ℕ, _+_, _*_, _-_, _%_, _≤_, _<_}
+use Prim.Native.Nat.{ℕ, _+_, _-_, _%_, _≤_, _<_}
 use native.Mathlib.Omega.{arith}
-use lib.Dec.{lit<}
 use lib.ListN.{length}
 use lib.IntN.{ℤ, pos, negℤ, _+ℤ_}
 use lib.Signed.{_≤ℤ_, _<ℤ_}
-use mir.Syntax.{w64}
-use mir.Val.{SFits}
-use Rattle.laws.specs.Numbers.{Within}
 use Rattle.laws.specs.Lists.{In, sumZ}
 use Rattle.laws.proofs.Ring.{one, var, _:+_, neg}
 use Rattle.laws.proofs.Certificates.{combine, eqn}
-use Rattle.laws.proofs.WithinLaws.{within-fits}
 use Rattle.laws.proofs.Sums.{sum-neg}
 use Rattle.laws.proofs.Firsts.{no-some}
 use Rattle.touches.specs.declared.Point.{Point}
-use Rattle.touches.specs.Limits.{mostTouches, mostFaces}
-use Rattle.touches.specs.Touches.{touch, touchCount, Near, Sound}
-use Rattle.touches.proofs.SoundLaws.{touch-near}
+use Rattle.touches.specs.Limits.{mostTouches}
+use Rattle.touches.specs.Touches.{touch, touchCount, Sound}
 use Rattle.touches.proofs.JoinLaws.{whole-length, join-count, join-first, join-second}
-use Rattle.volume.specs.Volume.{mostVolume}
 use Rattle.rules.specs.Faces.{Face, Places, faceVol}
 use Rattle.rules.specs.Start.{Start, start}
 use Rattle.rules.specs.Building.{seen, step, after, hull, volume}
 use Rattle.rules.specs.Placing.{Lies, outside, on, inside, astray, lies}
 use Rattle.rules.specs.Demands.{Flat, CornersIn, OnOrInside, Surface, Growth}
 use Rattle.rules.proofs.FaceLaws.{→unseen}
-use Rattle.rules.proofs.Hull.{Hull}
+use Rattle.rules.proofs.Hull.{Hull, hull-corners}
 use Rattle.rules.proofs.StepLaws.{step-same}
 use Rattle.rules.proofs.GrowthLaws.{step-volume}
-use Rattle.rules.proofs.RoomLaws.{hull-corners, hull-room, hull-most, hull-within}
 use Rattle.rules.proofs.StartLaws.{started, not-flat, 0<Q, Q<R, R<S, S<n}
 use Rattle.rules.proofs.MissingLaws.{start-none}
 use Rattle.rules.proofs.CornerLaws.{starters}
-use Rattle.rules.proofs.AfterLaws.{after-hull, taken-below, hull-none, hull-some, hull-built}
+use Rattle.rules.proofs.AfterLaws.{after-hull, taken-below, hull-none, hull-some}
 use Rattle.rules.proofs.PlaceLaws.{lies-inside, lies-outside, lies-within}
-use Rattle.rules.proofs.SurfaceLaws.{whole-hull, number-below, surface-of}
+use Rattle.rules.proofs.SurfaceLaws.{surface-of}
 use Rattle.rules.proofs.GrownLaws.{hull-grows}
 
 -- ---- 'How firmly results are fixed': two results that meet one definition are equal; so are two face lists that are the hull of p and n
@@ -91,36 +83,13 @@ module _ (p : Places) (n : ℕ) {s : Start} (e : start p n ≡ some s) (ks : Lis
     pub steps-corners : (f : Face) → In f (after p s ks) → CornersIn (λ t. t < n) f
     steps-corners = hull-corners taken n (taken-below (started p n e) ks below)
 
-    -- at most n·(n − 1)/3 faces, so at most 1,344
-    pub steps-room : 3 * length (after p s ks) ≤ n * (n - 1)
-    steps-room = hull-room taken n (taken-below (started p n e) ks below)
-
-    pub steps-most : n ≤ mostTouches → length (after p s ks) ≤ mostFaces
-    steps-most = hull-most taken n (taken-below (started p n e) ks below)
-
--- ---- demand 2: closed, no touch in front, a body, not in line, room, and a positive volume
+-- ---- demand 2: closed, no touch in front, a body, not in line, and a positive volume
 pub hull-surface : (p : Places) (n : ℕ) {h : List Face} → hull p n ≡ some h → Surface p n h
 hull-surface p n e = surface-of p n e
 
--- with at most 64 touches, all in range: at most 1,344 faces, and a volume that fits 64 bits
-module _ (p : Places) (n : ℕ) (few : n ≤ mostTouches) {h : List Face} (e : hull p n ≡ some h) where
-  pub most-faces : length h ≤ mostFaces
-  most-faces = hull-most (whole-hull p n e) n (number-below p n e) few
-
-  module _ (near : (t : ℕ) → t < n → Near (p t)) where
-    pub volume-within : Within (mostFaces * mostVolume) (volume p h)
-    unfolding volume
-    volume-within = hull-within (whole-hull p n e) n (number-below p n e) few near (near 0 (omega (arith, S<n (started p n (hull-built p n e .1)))))
-
-    pub volume-fits : SFits w64 (volume p h)
-    volume-fits = within-fits w64 (lit< tt) volume-within
-
--- so of every list that passes refusals 1 to 3
+-- a list that passes refusals 1 to 3 has at most 64 touches
 pub accepted-few : {cs : List ℤ} → Sound cs → touchCount cs ≤ mostTouches
 accepted-few {cs} c = omega (arith, whole-length cs (c .whole), c .few)
-
-pub accepted-fits : {cs : List ℤ} → Sound cs → {h : List Face} → hull (touch cs) (touchCount cs) ≡ some h → SFits w64 (volume (touch cs) h)
-accepted-fits {cs} c e = volume-fits (touch cs) (touchCount cs) (accepted-few c) e (λ t l. touch-near c t l)
 
 -- ---- demand 3: with m more touches the list is never flat, and it grows as Growth says
 pub hull-goes-on : (p : Places) (n m : ℕ) {h : List Face} → hull p n ≡ some h → (g : List Face) × (hull p (n + m) ≡ some g) × Growth p p n m h g

@@ -4,7 +4,7 @@ use mathlib.Core.Logic.{_↔_}
 use mathlib.Core.Bool.{false, not}
 use mathlib.Core.List.{List, []}
 use mathlib.Core.Option.{Option, none, some}
-use Prim.Native.Nat.{ℕ, _+_, _*_, _-_, _≤_, _<_}
+use Prim.Native.Nat.{ℕ, _+_, _≤_, _<_}
 use lib.Dec.{T}
 use lib.ListN.{length}
 use lib.IntN.{ℤ, pos}
@@ -91,7 +91,6 @@ pub record Surface (p : Places) (n : ℕ) (h : List Face) : Type 0 where
   pub behind : (t : ℕ) → t < n → OnOrInside p h (p t)
   pub body : (f : Face) → In f h → (t : ℕ) × (t < n) × (pos 0 <ℤ faceVol p f (p t))
   pub off-line : (f : Face) → In f h → inLine (p (corner f 0)) (p (corner f 1)) (p (corner f 2)) ≡ false
-  pub room : 3 * length h ≤ n * (n - 1)
   pub positive : pos 0 <ℤ volume p h
 
 -- demand 3: h is the face list of n touches, at p, and g that of these and m more, at r

@@ -13,8 +13,8 @@ ghost use Rattle.table.specs.Table.{stride, room, numbers, lent, faceAt,
 
 const STRIDE: usize = 3;
 
-// A table of so many numbers has room for every face list.
-pub const MOST: usize = TouchList::MOST_FACES * STRIDE;
+// A table of so many numbers has room for every hull.
+pub const ENOUGH: usize = TouchList::ENOUGH_FACES * STRIDE;
 
 // How many numbers n faces take.
 pub fn numbers_of(n: u16) -> usize

@@ -36,6 +36,9 @@ impl TouchList {
 
     pub const MOST_FACES: usize = 1344;
 
+    // No hull has more faces (`cover` FewFaces).
+    pub const ENOUGH_FACES: usize = 2 * TouchList::MOST - 4;
+
     // The limits that the definitions name are those of the code.
     pub fn limits() -> Limits
         ensures { λ r. ⌜ r ≡ limitsOf ⌝ }

@@ -1,5 +1,6 @@
 -- 02 A5: which places of its plane a triangle contains, border included.
 use mathlib.Core.Path.{_≡_}
+use mathlib.Core.Logic.{_⊎_}
 use mathlib.Core.Bool.{Bool, cond, _&&_, _||_}
 use lib.IntN.{ℤ, pos, _+ℤ_, _*ℤ_}
 use lib.Signed.{_≤ℤ_, _<ℤ_, leZ}
@@ -40,3 +41,15 @@ pub record Mixture (a b c q : Point) : Type 0 where
   pub x : (i +ℤ j +ℤ k) *ℤ q .x ≡ i *ℤ a .x +ℤ j *ℤ b .x +ℤ k *ℤ c .x
   pub y : (i +ℤ j +ℤ k) *ℤ q .y ≡ i *ℤ a .y +ℤ j *ℤ b .y +ℤ k *ℤ c .y
   pub z : (i +ℤ j +ℤ k) *ℤ q .z ≡ i *ℤ a .z +ℤ j *ℤ b .z +ℤ k *ℤ c .z
+
+-- every weight is above 0: q is inside the triangle
+pub record InsideTriangle (a b c q : Point) : Type 0 where
+  pub mixture : Mixture a b c q
+  pub i-pos : pos 0 <ℤ mixture .i
+  pub j-pos : pos 0 <ℤ mixture .j
+  pub k-pos : pos 0 <ℤ mixture .k
+
+-- some weight is 0: q is on a side
+pub record OnBorder (a b c q : Point) : Type 0 where
+  pub mixture : Mixture a b c q
+  pub on-side : (mixture .i ≡ pos 0) ⊎ (mixture .j ≡ pos 0) ⊎ (mixture .k ≡ pos 0)

@@ -1,25 +1,27 @@
--- The loop's invariant: the cone over the sides of the first i visible faces is poured.
+-- The loop's invariant: the cone over the sides of the first i visible faces is laid.
 use borrow.Author.Needs.{needs}
 use mathlib.Core.Path.{_≡_, refl, _∙_}
 use mathlib.Core.List.{[]}
 use Prim.Native.Nat.{_≤_, _-_}
+use native.Mathlib.Omega.{arith}
 use lib.ListN.{length, take, getD}
+use Rattle.laws.specs.Lists.{Laid}
 use Rattle.laws.proofs.Members.{getD-in}
-use Rattle.border.specs.Cone.{Poured, coneOn}
+use Rattle.laws.proofs.Tables.{laid-none, laid-then}
+use Rattle.border.specs.Cone.{coneOn}
 use Rattle.border.specs.Marks.{unmarked}
-use Rattle.border.proofs.PourLaws.{pour-none, pour-then}
-use Rattle.border.proofs.ConeLaws.{cone-none, cone-more, cone-all}
+use Rattle.border.proofs.ConeLaws.{cone-none, cone-more, cone-all, cone-room}
 use Rattle.border.proofs.cone.add_marked.Statement.{statement}
 use Rattle.border.proofs.cone.add_marked.Tie as tie
 
 abbrev Inv-loop : tie.InvT-loop
-Inv-loop table₀ start seen marks w k at₀ i₀ table at i = (i ≤ length seen) × (length table ≡ length table₀) × Poured start (coneOn (unmarked marks w (k .0)) (k .0) (take i seen)) table₀ at table
+Inv-loop table₀ start seen marks w k at₀ i₀ table at i = (i ≤ length seen) × (length table ≡ length table₀) × Laid start (coneOn (unmarked marks w (k .0)) (k .0) (take i seen)) table₀ at table
 
 abbrev μ-loop : tie.MeasureT-loop
 μ-loop table₀ start seen marks w k at₀ i₀ table at i = length seen - i
 
 loop-holds : tie.Need-loop-holds Inv-loop μ-loop
-loop-holds c = (search needs, refl, rw (cone-none _ _) (pour-none _ _ (c .before .pre .4)))
+loop-holds c = (search needs, refl, rw (cone-none _ _) (laid-none _ _))
 
 mul-add-sides : tie.Need-mul-add-sides Inv-loop μ-loop
 mul-add-sides c = search needs
@@ -31,8 +33,12 @@ add-sides-requires : tie.Need-add-sides-requires Inv-loop μ-loop
 add-sides-requires c κs =
     let l = c .before .before .before .loop in
     let s = c .before .before .before .before .before in
-    let h = s .pre in
-    (h .0, h .2 (getD (s .args .seen .now) (l .i) []) (getD-in (s .args .seen .now) (l .i) [] (search needs)), h .3, search needs)
+    let h = s .pre in (
+      h .0,
+      h .2 (getD (s .args .seen .now) (l .i) []) (getD-in (s .args .seen .now) (l .i) [] (search needs)),
+      h .3,
+      omega (arith, h .4, l .inv .1, l .inv .2 .next, cone-room (h .1) (h .2) (l .i) (search needs)),
+    )
 
 add-i : tie.Need-add-i Inv-loop μ-loop
 add-i c = search needs
@@ -47,7 +53,7 @@ loop-again c =
     let q = c .before .add-sides in (
       search needs,
       q .kept .0 ∙ l .inv .1,
-      rw (cone-more (unmarked (a .marks .now) (a .w) (a .k .0)) (a .k .0) (a .seen .now) (l .i) (search needs)) (pour-then (l .inv .2) (l .inv .1) (q .ensures)),
+      rw (cone-more (unmarked (a .marks .now) (a .w) (a .k .0)) (a .k .0) (a .seen .now) (l .i) (search needs)) (laid-then (l .inv .2) (omega (arith, c .before .before .before .before .before .before .before .pre .4)) (q .ensures)),
     )
 
 same-length : tie.Need-same-length Inv-loop μ-loop

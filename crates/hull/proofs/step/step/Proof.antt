@@ -1,9 +1,9 @@
 use borrow.Author.Needs.{needs}
 use native.Mathlib.Omega.{arith}
 use Prim.Native.Nat.{_≤_}
-use lib.ListN.{length, length-take}
+use lib.ListN.{length, take, length-take}
 use Rattle.rules.proofs.Theorems.{accepted-few}
-use Rattle.hull.proofs.StepLaws.{front-few, kept-few, front-count, front-faces, step-poured, step-faces, planed-before}
+use Rattle.hull.proofs.StepLaws.{front-few, kept-few, front-count, front-faces, cone-room, step-laid, step-faces, planed-before}
 use Rattle.hull.proofs.step.step.Statement.{statement}
 use Rattle.hull.proofs.step.step.Tie as tie
 
@@ -27,7 +27,22 @@ add-cone-requires c κs =
       s .pre .3,
       front-faces (q .ensures .0) (omega arith) (s .pre .0),
       omega (arith, s .pre .0 .touch, accepted-few (s .pre .0 .sound)),
-      omega (arith, kept-few (q .ensures .0), length-take (s .args .n) (s .args .table .now), s .pre .4, q .kept .0),
+      cone-room (q .ensures .0) (omega (arith, s .pre .5, q .kept .0)),
+    )
+
+put-planes-requires : tie.Need-put-planes-requires
+put-planes-requires c κs =
+    let q = c .before .before .before .before .before .before .before .before .before .before .before .before .part in
+    let s = c .before .before .before .before .before .before .before .before .before .before .before .before .before .before .before .before .before in
+    let a = c .before .before .before .before .before .add-cone in
+    let few : q .result .kept ≤ length (s .args .table .now) = omega (arith, kept-few (q .ensures .0), length-take (s .args .n) (s .args .table .now), s .pre .4) in
+    let d = step-laid {cs = s .args .coords .now} {h = take (s .args .n) (s .args .table .now)} {k = s .args .k .0} (q .ensures .0) (a .ensures .0) in (
+      s .pre .0 .sound,
+      planed-before (q .ensures .1) (a .ensures .0) (omega (arith, few, q .kept .0)),
+      omega (arith, a .ensures .0 .next),
+      omega (arith, d .next, s .pre .5, q .kept .0, a .kept .0),
+      omega (arith, d .next, s .pre .5, q .kept .1 .0, s .pre .2 .planes-long),
+      λ j x y. step-faces (s .pre .0) d j y,
     )
 
 same-length : tie.Need-same-length
@@ -44,45 +59,10 @@ same-length-4 c = search needs
 
 returns : tie.Need-returns
 returns c =
-    let q = c .before .before .before .before .before .before .before .before .before .before .before .part in
-    let s = c .before .before .before .before .before .before .before .before .before .before .before .before .before .before .before .before in
-    let a = c .before .before .before .before .add-cone in
-    (step-poured (q .ensures .0) (omega (arith, kept-few (q .ensures .0), length-take (s .args .n) (s .args .table .now), s .pre .4)) (q .kept .0) (a .ensures .0), (λ l. absurd (omega (arith, c .if1 .taken, a .kept .0, q .kept .0)), a .ensures .1))
-
-put-planes-requires : tie.Need-put-planes-requires
-put-planes-requires c κs =
-    let q = c .before .before .before .before .before .before .before .before .before .before .before .before .before .part in
-    let s = c .before .before .before .before .before .before .before .before .before .before .before .before .before .before .before .before .before .before in
-    let a = c .before .before .before .before .before .before .add-cone in
-    let few : q .result .kept ≤ length (s .args .table .now) = omega (arith, kept-few (q .ensures .0), length-take (s .args .n) (s .args .table .now), s .pre .4) in
-    let g = a .ensures .0 .laid (omega (arith, a .ensures .0 .most, a .kept .0, c .before .before .if1 .left)) in
-    let d = step-poured (q .ensures .0) few (q .kept .0) (a .ensures .0) .laid (omega (arith, a .ensures .0 .most, a .kept .0, q .kept .0, c .before .before .if1 .left)) in (
-      s .pre .0 .sound,
-      planed-before (q .ensures .1) g (omega (arith, few, q .kept .0)),
-      omega (arith, g .next),
-      omega (arith, a .ensures .0 .most, a .kept .0),
-      omega (arith, a .ensures .0 .most, q .kept .0, q .kept .1 .0, s .pre .2 .planes-long),
-      λ j x y. step-faces (s .pre .0) d j y,
-    )
-
-same-length-5 : tie.Need-same-length-5
-same-length-5 c = search needs
-
-same-length-6 : tie.Need-same-length-6
-same-length-6 c = search needs
-
-same-length-7 : tie.Need-same-length-7
-same-length-7 c = search needs
-
-same-length-8 : tie.Need-same-length-8
-same-length-8 c = search needs
-
-returns-2 : tie.Need-returns-2
-returns-2 c =
-    let q = c .before .before .before .before .before .before .before .before .before .before .before .before .before .before .before .part in
-    let s = c .before .before .before .before .before .before .before .before .before .before .before .before .before .before .before .before .before .before .before .before in
-    let a = c .before .before .before .before .before .before .before .before .add-cone in
-    (step-poured (q .ensures .0) (omega (arith, kept-few (q .ensures .0), length-take (s .args .n) (s .args .table .now), s .pre .4)) (q .kept .0) (a .ensures .0), (λ l. c .before .put-planes .ensures, a .ensures .1))
+    let q = c .before .before .before .before .before .before .before .before .before .before .before .before .before .before .part in
+    let s = c .before .before .before .before .before .before .before .before .before .before .before .before .before .before .before .before .before .before .before in
+    let a = c .before .before .before .before .before .before .before .add-cone in
+    (step-laid {cs = s .args .coords .now} {h = take (s .args .n) (s .args .table .now)} {k = s .args .k .0} (q .ensures .0) (a .ensures .0), (c .before .put-planes .ensures, a .ensures .1))
 
 pub step-spec : {M : Type 1} → statement M
 step-spec =
@@ -92,14 +72,9 @@ step-spec =
     slice-reshare-prefix-add-cone
     slice-aggregate-add-cone
     add-cone-requires
+    put-planes-requires
     same-length
     same-length-2
     same-length-3
     same-length-4
-    returns
-    put-planes-requires
-    same-length-5
-    same-length-6
-    same-length-7
-    same-length-8
-    returns-2)
+    returns)

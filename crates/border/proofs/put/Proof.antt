@@ -3,8 +3,8 @@ use Prim.Native.Nat.{_<_}
 use lib.ListN.{length}
 use native.Mathlib.Omega.{arith}
 use Rattle.laws.proofs.Tables.{laid-one, laid-none}
-use Rattle.hull.proofs.step.put.Statement.{statement}
-use Rattle.hull.proofs.step.put.Tie as tie
+use Rattle.border.proofs.put.Statement.{statement}
+use Rattle.border.proofs.put.Tie as tie
 
 -- where the face is wanted, there is room for it
 room : (c : tie.Then1) → c .before .args .at < length (c .before .args .table .now)
