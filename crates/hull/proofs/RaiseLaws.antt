@@ -42,32 +42,35 @@ taken-skip : {cs : List ℤ} {s : Four} {k m : ℕ} {table : List Face} {planes 
 taken-skip {cs} {s} {k} t e = let h = after-skip (touch cs) s k e in record { count = t .count ∙ ap length (sym h); faces = t .faces ∙ sym h; planed = t .planed }
 
 -- ---- one touch
-module _ {cs : List ℤ} {s : Four} (b : Begun cs s) {k m : ℕ} {table : List Face} {planes : List (List ℤ)} where
-  module _ (t : Taken cs s k m table planes) where
-    pub taken-ready : {j : ℕ} → k ≤ touchCount cs → j < touchCount cs → Ready cs (take m table) j
-    taken-ready l h = rw (t .faces) (record { sound = b .sound; faces = after-faces b l; touch = h })
+module _ {cs : List ℤ} {s : Four} {k m : ℕ} {table : List Face} {planes : List (List ℤ)} (t : Taken cs s k m table planes) where
+  pub taken-ready : Begun cs s → {j : ℕ} → k ≤ touchCount cs → j < touchCount cs → Ready cs (take m table) j
+  taken-ready b l h = rw (t .faces) (record { sound = b .sound; faces = after-faces b l; touch = h })
 
-    module _ (l : k < touchCount cs) (e : isStart s k ≡ false) where
-      step-is : step (touch cs) (take m table) k ≡ after (touch cs) s (others s (k + 1))
-      step-is = ap (λ (h : List Face). step (touch cs) h k) (t .faces) ∙ sym (after-step (touch cs) s k e)
+  module _ (e : isStart s k ≡ false) where
+    step-is : step (touch cs) (take m table) k ≡ after (touch cs) s (others s (k + 1))
+    step-is = ap (λ (h : List Face). step (touch cs) h k) (t .faces) ∙ sym (after-step (touch cs) s k e)
 
-      pub step-room : {seen : List Face} {marks : List ℕ} → Tables cs table planes seen marks → length (step (touch cs) (take m table) k) ≤ length table
-      step-room w = omega (arith, ap length step-is, after-room b {k = k + 1} (omega arith), w .room)
+    pub step-room : {seen : List Face} {marks : List ℕ} → Begun cs s → k < touchCount cs → Tables cs table planes seen marks → length (step (touch cs) (take m table) k) ≤ length table
+    step-room b l w = omega (arith, ap length step-is, after-room b {k = k + 1} (omega arith), w .room)
 
-      pub taken-step : {r : ℕ} {next : List Face} {beside : List (List ℤ)} → Laid 0 (step (touch cs) (take m table) k) table r next → Planed cs r next beside → Taken cs s (k + 1) r next beside
-      taken-step g p = record { count = omega (arith, g .next) ∙ ap length step-is; faces = laid-first g ∙ step-is; planed = p }
+    pub taken-step : {r : ℕ} {next : List Face} {beside : List (List ℤ)} → Laid 0 (step (touch cs) (take m table) k) table r next → Planed cs r next beside → Taken cs s (k + 1) r next beside
+    taken-step g p = record { count = omega (arith, g .next) ∙ ap length step-is; faces = laid-first g ∙ step-is; planed = p }
 
   -- the touches from k on up to the next one that is not of the start
-  taken-run : Taken cs s k m table planes → (d : ℕ) → ((j : ℕ) → k ≤ j → j < k + d → isStart s j ≡ true) → Taken cs s (k + d) m table planes
-  taken-run t zero f = let e : k ≡ k + 0 = omega arith in subst (λ (i : ℕ). Taken cs s i m table planes) e t
-  taken-run t (suc d) f =
+  taken-run : (d : ℕ) → ((j : ℕ) → k ≤ j → j < k + d → isStart s j ≡ true) → Taken cs s (k + d) m table planes
+  taken-run zero f = let e : k ≡ k + 0 = omega arith in subst (λ (i : ℕ). Taken cs s i m table planes) e t
+  taken-run (suc d) f =
       let e : k + d + 1 ≡ k + suc d = omega arith in
-      subst (λ (i : ℕ). Taken cs s i m table planes) e (taken-skip (taken-run t d (λ j a l. f j a (omega arith))) (f (k + d) (omega arith) (omega arith)))
+      subst (λ (i : ℕ). Taken cs s i m table planes) e (taken-skip (taken-run d (λ j a l. f j a (omega arith))) (f (k + d) (omega arith) (omega arith)))
 
-  pub taken-next : Taken cs s k m table planes → {r : ℕ} → Next s k r → Taken cs s r m table planes
-  taken-next t {r} o =
+  pub taken-next : {r : ℕ} → Next s k r → Taken cs s r m table planes
+  taken-next {r} o =
       let e : k + (r - k) ≡ r = omega (arith, o .skips .from) in
-      subst (λ (i : ℕ). Taken cs s i m table planes) e (taken-run t (r - k) (λ j a l. o .skips .skipped j a (omega (arith, e))))
+      subst (λ (i : ℕ). Taken cs s i m table planes) e (taken-run (r - k) (λ j a l. o .skips .skipped j a (omega (arith, e))))
+
+  -- none is left below n
+  pub taken-all : {n : ℕ} → k ≤ n → n ≤ k → Taken cs s n m table planes
+  taken-all {n} l h = let e : k ≡ n = omega arith in subst (λ (i : ℕ). Taken cs s i m table planes) e t
 
 -- the next touch that is not of the start
 module _ {cs : List ℤ} {s : Four} (b : Begun cs s) where
@@ -79,10 +82,6 @@ module _ {cs : List ℤ} {s : Four} (b : Begun cs s) where
 
   pub begun-within : {k r : ℕ} → Next s k r → k ≤ touchCount cs → r ≤ touchCount cs
   begun-within h l = let o = start-order (touch cs) (touchCount cs) (b .begins) in next-within s (omega (arith, o)) (omega (arith, o)) (omega (arith, o)) (omega (arith, o)) h l
-
--- none is left below n
-pub taken-all : {cs : List ℤ} {s : Four} {k n m : ℕ} {table : List Face} {planes : List (List ℤ)} → Taken cs s k m table planes → k ≤ n → n ≤ k → Taken cs s n m table planes
-taken-all {cs} {s} {k} {n} {m} {table} {planes} t l h = let e : k ≡ n = omega arith in subst (λ (i : ℕ). Taken cs s i m table planes) e t
 
 -- tables that building works in have room for the faces that are taken
 pub taken-room : {cs : List ℤ} {s : Four} {k m : ℕ} {table after seen : List Face} {planes beside : List (List ℤ)} {marks : List ℕ} → Begun cs s → Tables cs table planes seen marks → Taken cs s k m after beside → k ≤ touchCount cs → m ≤ length table
@@ -120,12 +119,11 @@ pub start-room : {cs : List ℤ} {s : Four} {table seen : List Face} {planes : L
 unfolding build
 start-room b w = omega (arith, after-room b {k = 0} (omega arith), w .room)
 
-module _ {cs : List ℤ} {s : Four} (b : Begun cs s) {m : ℕ} {table : List Face} where
-  -- the faces of the start are over the touches
-  pub start-faces : {old : List Face} → Laid 0 (startFaces (corners (touch cs) s)) old m table → (j : ℕ) → j < m → FaceOf cs (getD table j [])
-  unfolding build
-  start-faces g j h = rw (← getD-take m table j [] h, laid-first g) (after-faces b {k = 0} (omega arith) (getD (startFaces (corners (touch cs) s)) j []) (getD-in (startFaces (corners (touch cs) s)) j [] (omega (arith, g .next))))
+-- the faces of the start are over the touches
+pub start-faces : {cs : List ℤ} {s : Four} {m : ℕ} {old table : List Face} → Begun cs s → Laid 0 (startFaces (corners (touch cs) s)) old m table → (j : ℕ) → j < m → FaceOf cs (getD table j [])
+unfolding build
+start-faces {cs} {s} {m} {old} {table} b g j h = rw (← getD-take m table j [] h, laid-first g) (after-faces b {k = 0} (omega arith) (getD (startFaces (corners (touch cs) s)) j []) (getD-in (startFaces (corners (touch cs) s)) j [] (omega (arith, g .next))))
 
-  pub taken-start : {planes : List (List ℤ)} {old : List Face} → Laid 0 (startFaces (corners (touch cs) s)) old m table → Planed cs m table planes → Taken cs s 0 m table planes
-  unfolding build
-  taken-start g p = record { count = omega (arith, g .next); faces = laid-first g; planed = p }
+pub taken-start : {cs : List ℤ} {s : Four} {m : ℕ} {old table : List Face} {planes : List (List ℤ)} → Laid 0 (startFaces (corners (touch cs) s)) old m table → Planed cs m table planes → Taken cs s 0 m table planes
+unfolding build
+taken-start g p = record { count = omega (arith, g .next); faces = laid-first g; planed = p }

@@ -48,7 +48,7 @@ loop-holds c =
     let q = c .before .before .before .before .before .before .put-start in
     let w = c .before .before .put-planes in
     let o = begun-first (h .0) (c .next-other .ensures) in
-    (begun-within (h .0) o (omega arith), refl, refl, refl, refl, taken-next (h .0) (taken-start (h .0) (q .ensures) (w .ensures)) o, fresh-later (h .2) (omega arith), o .here)
+    (begun-within (h .0) o (omega arith), refl, refl, refl, refl, taken-next (taken-start (q .ensures) (w .ensures)) o, fresh-later (h .2) (omega arith), o .here)
 
 cast-t27 : tie.Need-cast-t27 Inv-loop μ-loop
 cast-t27 c = omega (arith, c .before .before .before .before .before .loop .inv .0, accepted-few (c .before .before .before .before .before .before .before .before .before .before .before .before .before .before .before .pre .0 .sound))
@@ -62,7 +62,7 @@ step-requires c κs =
     let g = c .before .before .before .before .loop-test .taken in
     let t = l .inv .5 in
     let v = tables-kept (h .1) (l .inv .1 ∙ q .kept .0) (l .inv .2 ∙ w .kept .0) (l .inv .3) (l .inv .4) in
-    (taken-ready (h .0) t (l .inv .0) g, t .planed, v, l .inv .6, taken-room (h .0) v t (l .inv .0), step-room (h .0) t g (l .inv .7) v)
+    (taken-ready t (h .0) (l .inv .0) g, t .planed, v, l .inv .6, taken-room (h .0) v t (l .inv .0), step-room t (l .inv .7) (h .0) g v)
 
 add-next-other : tie.Need-add-next-other Inv-loop μ-loop
 add-next-other c = omega (arith, c .before .before .before .before .before .before .before .before .before .before .before .loop .inv .0, accepted-few (c .before .before .before .before .before .before .before .before .before .before .before .before .before .before .before .before .before .before .before .before .before .pre .0 .sound))
@@ -87,7 +87,7 @@ loop-again c =
       q .kept .1 .0 ∙ l .inv .2,
       q .kept .1 .1 .0 ∙ l .inv .3,
       q .kept .1 .1 .1 .0 ∙ l .inv .4,
-      taken-next (h .0) (taken-step (h .0) (l .inv .5) g (l .inv .7) (q .ensures .0) (q .ensures .1 .0)) o,
+      taken-next (taken-step (l .inv .5) (l .inv .7) (q .ensures .0) (q .ensures .1 .0)) o,
       fresh-later (q .ensures .1 .1) (o .skips .from),
       o .here,
     )
