@@ -10,7 +10,7 @@ use lib.Signed.{_≤ℤ_, _<ℤ_, <ℤ-irrefl}
 use Rattle.laws.specs.Lists.{In, put, keep, has, Pw, Nodup, sumZ}
 use Rattle.laws.proofs.Tests.{not-not, →not-not}
 use Rattle.laws.proofs.Integers.{up-neg, dn-neg, sum-is, +ℤ-left-comm, +ℤ-swap}
-use Rattle.laws.proofs.Order.{zs, pos-is, ≤-refl, add-nonneg, add-pos, below-or}
+use Rattle.laws.proofs.Order.{zs, pos-is, ≤-refl, add-nonneg, add-pos, nonneg-add, below-or}
 use Rattle.laws.proofs.Members.{here, there, in-keep, keep-in, keep-all, Pw-keep, in-map, map-in, nodup-map, has→, →has, apart, apart→}
 
 pub sum-append : {A : Type 0} (g : A → ℤ) (l m : List A) → sumZ g (l ++ m) ≡ sumZ g l +ℤ sumZ g m
@@ -33,12 +33,9 @@ pub sum-pos : {A : Type 0} (g : A → ℤ) (l : List A) → ((x : A) → In x l 
 sum-pos g [] h m k = absurd (List·Memᴰ·not-nil m)
 sum-pos {A} g (x ∷ l) h {y} m k = go (λ n. sum-pos g l (λ z i. h z (there i)) n k) (List·Memᴰ·cases-cons m)
   where
-    flip-pos : {a b : ℤ} → pos 0 ≤ℤ a → pos 0 <ℤ b → pos 0 <ℤ (a +ℤ b)
-    flip-pos {a} {b} u v = omega (arith, zs, sum-is a b, pos-is 0)
-
     go : (In y l → pos 0 <ℤ sumZ g l) → (y ≡ x) ⊎ In y l → pos 0 <ℤ (g x +ℤ sumZ g l)
     go r (inl e) = add-pos (subst (λ (z : A). pos 0 <ℤ g z) e k) (sum-nonneg g l (λ z i. h z (there i)))
-    go r (inr n) = flip-pos (h x (here refl)) (r n)
+    go r (inr n) = nonneg-add (h x (here refl)) (r n)
 
 -- a sum above 0 has a term above 0
 pub some-pos : {A : Type 0} (g : A → ℤ) (l : List A) → pos 0 <ℤ sumZ g l → (x : A) × In x l × (pos 0 <ℤ g x)
