@@ -5,9 +5,9 @@ use Rattle.rules.specs.Faces.{Face, Side, sides}
 use Rattle.rules.specs.Building.{cone}
 
 -- the cone from k over side s, if it passes the test t
-abbrev pub coneSide : (Side → Bool) → ℕ → Side → List Face
-coneSide t k s = only_if (t s) (cone k s)
+abbrev pub cone_side : (Side → Bool) → ℕ → Side → List Face
+cone_side t k s = only_if (t s) (cone k s)
 
 -- the cone over those sides of the faces w that pass
-unfoldable pub coneOn : (Side → Bool) → ℕ → List Face → List Face
-coneOn t k w = map (cone k) (keep t (sides w))
+unfoldable pub cone_on : (Side → Bool) → ℕ → List Face → List Face
+cone_on t k w = map (cone k) (keep t (sides w))

@@ -1,12 +1,12 @@
 // The cone over the sides of the visible faces that have no mark on their reverse.
 ghost use Rattle.std.specs.Prelude.{[], ◌∷◌, map, ◌+◌, ◌<◌, ◌≤◌, length};
 ghost use Rattle.laws.specs.Lists.{In, Laid};
-ghost use Rattle.touches.specs.Limits.{mostTouches};
+ghost use Rattle.touches.specs.Limits.{most_touches};
 ghost use Rattle.rules.specs.Faces.{Face, side, border};
 ghost use Rattle.rules.specs.Building.{cone};
 ghost use Rattle.rules.specs.Demands.{CornersIn};
 ghost use Rattle.border.specs.Marks.{MarkTable, Marked, unmarked};
-ghost use Rattle.border.specs.Cone.{coneSide, coneOn};
+ghost use Rattle.border.specs.Cone.{cone_side, cone_on};
 
 use crate::marks::is_marked;
 use crate::put;
@@ -22,9 +22,9 @@ fn add_side(
     b: TouchNo,
     k: TouchNo,
 ) -> usize
-    requires { MarkTable w marks.now × (a.0 < w) × (b.0 < w) × (k.0 < mostTouches)
-        × (at + length (coneSide (unmarked marks.now w k.0) k.0 (side a.0 b.0)) ≤ length table.old) }
-    ensures { Laid at (coneSide (unmarked marks.now w k.0) k.0 (side a.0 b.0)) table.old result table.new }
+    requires { MarkTable w marks.now × (a.0 < w) × (b.0 < w) × (k.0 < most_touches)
+        × (at + length (cone_side (unmarked marks.now w k.0) k.0 (side a.0 b.0)) ≤ length table.old) }
+    ensures { Laid at (cone_side (unmarked marks.now w k.0) k.0 (side a.0 b.0)) table.old result table.new }
 {
     let inner = is_marked(marks, w, b, a, k);
     put(table, at, [a.0, b.0, k.0], !inner)
@@ -39,9 +39,9 @@ fn add_sides(
     f: [u16; 3],
     k: TouchNo,
 ) -> usize
-    requires { MarkTable w marks.now × CornersIn (λ t. t < w) f × (k.0 < mostTouches)
-        × (at + length (coneOn (unmarked marks.now w k.0) k.0 (f ∷ [])) ≤ length table.old) }
-    ensures { Laid at (coneOn (unmarked marks.now w k.0) k.0 (f ∷ [])) table.old result table.new }
+    requires { MarkTable w marks.now × CornersIn (λ t. t < w) f × (k.0 < most_touches)
+        × (at + length (cone_on (unmarked marks.now w k.0) k.0 (f ∷ [])) ≤ length table.old) }
+    ensures { Laid at (cone_on (unmarked marks.now w k.0) k.0 (f ∷ [])) table.old result table.new }
 {
     let one = add_side(table, at, marks, w, TouchNo(f[0]), TouchNo(f[1]), k);
     let two = add_side(table, one, marks, w, TouchNo(f[1]), TouchNo(f[2]), k);
@@ -58,7 +58,7 @@ pub(crate) fn add_marked(
     k: TouchNo,
 ) -> usize
     requires { MarkTable w marks.now × Marked w k.0 seen.now marks.now × ((f : Face) → In f seen.now → CornersIn (λ t. t < w) f)
-        × (k.0 < mostTouches) × (start + length (map (cone k.0) (border seen.now)) ≤ length table.old) }
+        × (k.0 < most_touches) × (start + length (map (cone k.0) (border seen.now)) ≤ length table.old) }
     ensures { Laid start (map (cone k.0) (border seen.now)) table.old result table.new }
 {
     let mut at = start;

@@ -4,7 +4,7 @@ mod marks;
 
 ghost use Rattle.std.specs.Prelude.{map, ◌+◌, ◌<◌, ◌≤◌, length};
 ghost use Rattle.laws.specs.Lists.{In, only_if, Laid};
-ghost use Rattle.touches.specs.Limits.{mostTouches};
+ghost use Rattle.touches.specs.Limits.{most_touches};
 ghost use Rattle.rules.specs.Faces.{Face, border};
 ghost use Rattle.rules.specs.Building.{cone};
 ghost use Rattle.rules.specs.Demands.{CornersIn};
@@ -37,7 +37,7 @@ pub fn add_cone(
     k: TouchNo,
 ) -> usize
     requires { MarkTable w marks.old × Fresh k.0 marks.old × ((f : Face) → In f seen.now → CornersIn (λ t. t < w) f)
-        × (k.0 < mostTouches) × (at + length (map (cone k.0) (border seen.now)) ≤ length table.old) }
+        × (k.0 < most_touches) × (at + length (map (cone k.0) (border seen.now)) ≤ length table.old) }
     ensures faces { Laid at (map (cone k.0) (border seen.now)) table.old result table.new }
     ensures marks { Fresh (k.0 + 1) marks.new }
 {

@@ -1,12 +1,12 @@
 // What C links: numbers, and slices as a pointer and a length.
 ghost use Rattle.std.specs.Prelude.{◌≡◌, ◌≤◌, length};
-ghost use Rattle.planes.specs.Planes.{planed, planedRefusal, planedPlane, planeReading, readingRefusal, readingValue};
-ghost use Rattle.hull.specs.Build.{hullOf, built, tableAfter};
+ghost use Rattle.planes.specs.Planes.{planed, planed_refusal, planed_plane, plane_reading, reading_refusal, reading_value};
+ghost use Rattle.hull.specs.Build.{hull_of, built, table_after};
 ghost use Rattle.hull.specs.Place.{placed};
 ghost use Rattle.plumb.specs.Plumb.{plumbed};
-ghost use Rattle.records.specs.Record.{plainVersion, recordOf, touchesIn};
-ghost use Rattle.records.specs.Answers.{read_of, writeOf, copy_of, listAfter, bufferAfter, readNumbers, writeNumbers};
-ghost use Rattle.numbers.specs.Numbers.{numbers, builtNumbers, placedNumbers, planeNumbers, plumbedNumbers, plumbedHeights, recordNumbers, one, placeAt};
+ghost use Rattle.records.specs.Record.{plain_version, record_of, touches_in};
+ghost use Rattle.records.specs.Answers.{read_of, write_of, copy_of, list_after, buffer_after, read_numbers, write_numbers};
+ghost use Rattle.numbers.specs.Numbers.{numbers, built_numbers, placed_numbers, plane_numbers, plumbed_numbers, plumbed_heights, record_numbers, one, place_at};
 
 use numbers::{wide8, wide16};
 use records::Numbers;
@@ -21,7 +21,7 @@ fn wide32(x: i32) -> i64
 // A record's numbers: its count of touches or bytes is small.
 fn record_numbers(n: Numbers) -> [i64; 3]
     requires { n.count ≤ 65535 }
-    ensures { result ≡ recordNumbers n }
+    ensures { result ≡ record_numbers n }
 {
     let number = n.number;
     let place = n.place.0;
@@ -30,7 +30,7 @@ fn record_numbers(n: Numbers) -> [i64; 3]
 }
 
 fn place_at(x: i32, y: i32, z: i32) -> Point
-    ensures { result ≡ placeAt x y z }
+    ensures { result ≡ place_at x y z }
 {
     Point {
         x: x as i64,
@@ -41,8 +41,8 @@ fn place_at(x: i32, y: i32, z: i32) -> Point
 
 #[unsafe(no_mangle)]
 pub extern "C" fn chienlohup_build(touches: &[i32], faces: &mut [u16], out: &mut [i64; 4])
-    ensures said { out.new ≡ builtNumbers (built touches.now faces.old) }
-    ensures table { faces.new ≡ tableAfter (built touches.now faces.old) (hullOf touches.now) faces.old }
+    ensures said { out.new ≡ built_numbers (built touches.now faces.old) }
+    ensures table { faces.new ≡ table_after (built touches.now faces.old) (hull_of touches.now) faces.old }
 {
     *out = numbers::built_numbers(hull::build::build(touches, faces));
 }
@@ -56,7 +56,7 @@ pub extern "C" fn chienlohup_place(
     z: i32,
     out: &mut [i64; 5],
 )
-    ensures { out.new ≡ placedNumbers (placed touches.now faces.now (placeAt x y z)) }
+    ensures { out.new ≡ placed_numbers (placed touches.now faces.now (place_at x y z)) }
 {
     *out = numbers::placed_numbers(hull::place::place(touches, faces, place_at(x, y, z)));
 }
@@ -70,8 +70,8 @@ pub extern "C" fn chienlohup_plane(
     out: &mut [i64; 2],
     plane: &mut [f64; 4],
 )
-    ensures said { out.new ≡ numbers (planedRefusal (planed touches.now a b c)) }
-    ensures plane { plane.new ≡ planeNumbers (planedPlane (planed touches.now a b c)) }
+    ensures said { out.new ≡ numbers (planed_refusal (planed touches.now a b c)) }
+    ensures plane { plane.new ≡ plane_numbers (planed_plane (planed touches.now a b c)) }
 {
     let answer = planes::plane_of(touches, TouchNo(a), TouchNo(b), TouchNo(c));
     *out = numbers::planed_said(answer);
@@ -90,8 +90,8 @@ pub extern "C" fn chienlohup_plane_reading(
     out: &mut [i64; 2],
     reading: &mut [f64; 1],
 )
-    ensures said { out.new ≡ numbers (readingRefusal (planeReading touches.now a b c (placeAt x y z))) }
-    ensures reading { reading.new ≡ one (readingValue (planeReading touches.now a b c (placeAt x y z))) }
+    ensures said { out.new ≡ numbers (reading_refusal (plane_reading touches.now a b c (place_at x y z))) }
+    ensures reading { reading.new ≡ one (reading_value (plane_reading touches.now a b c (place_at x y z))) }
 {
     let q = place_at(x, y, z);
     let answer = planes::plane_reading(touches, TouchNo(a), TouchNo(b), TouchNo(c), q);
@@ -107,8 +107,8 @@ pub extern "C" fn chienlohup_plumb(
     out: &mut [i64; 3],
     heights: &mut [f64; 2],
 )
-    ensures said { out.new ≡ plumbedNumbers (plumbed touches.now x y) }
-    ensures heights { heights.new ≡ plumbedHeights (plumbed touches.now x y) }
+    ensures said { out.new ≡ plumbed_numbers (plumbed touches.now x y) }
+    ensures heights { heights.new ≡ plumbed_heights (plumbed touches.now x y) }
 {
     let answer = plumb::plumb(touches, wide32(x), wide32(y));
     *out = numbers::plumbed_numbers(answer);
@@ -117,24 +117,24 @@ pub extern "C" fn chienlohup_plumb(
 
 #[unsafe(no_mangle)]
 pub extern "C" fn chienlohup_read(bytes: &[u8], touches: &mut [i32], out: &mut [i64; 3])
-    ensures said { out.new ≡ recordNumbers (readNumbers (read_of plainVersion bytes.now (length touches.old))) }
-    ensures table { touches.new ≡ listAfter (read_of plainVersion bytes.now (length touches.old)) (touchesIn bytes.now) touches.old }
+    ensures said { out.new ≡ record_numbers (read_numbers (read_of plain_version bytes.now (length touches.old))) }
+    ensures table { touches.new ≡ list_after (read_of plain_version bytes.now (length touches.old)) (touches_in bytes.now) touches.old }
 {
     *out = record_numbers(records::read_numbers(records::read(bytes, touches)));
 }
 
 #[unsafe(no_mangle)]
 pub extern "C" fn chienlohup_write(touches: &[i32], buffer: &mut [u8], out: &mut [i64; 3])
-    ensures said { out.new ≡ recordNumbers (writeNumbers (writeOf touches.now (length buffer.old))) }
-    ensures table { buffer.new ≡ bufferAfter (writeOf touches.now (length buffer.old)) (recordOf plainVersion touches.now) buffer.old }
+    ensures said { out.new ≡ record_numbers (write_numbers (write_of touches.now (length buffer.old))) }
+    ensures table { buffer.new ≡ buffer_after (write_of touches.now (length buffer.old)) (record_of plain_version touches.now) buffer.old }
 {
     *out = record_numbers(records::write_numbers(records::write(touches, buffer)));
 }
 
 #[unsafe(no_mangle)]
 pub extern "C" fn chienlohup_copy(bytes: &[u8], buffer: &mut [u8], out: &mut [i64; 3])
-    ensures said { out.new ≡ recordNumbers (writeNumbers (copy_of plainVersion bytes.now (length buffer.old))) }
-    ensures table { buffer.new ≡ bufferAfter (copy_of plainVersion bytes.now (length buffer.old)) bytes.now buffer.old }
+    ensures said { out.new ≡ record_numbers (write_numbers (copy_of plain_version bytes.now (length buffer.old))) }
+    ensures table { buffer.new ≡ buffer_after (copy_of plain_version bytes.now (length buffer.old)) bytes.now buffer.old }
 {
     *out = record_numbers(records::write_numbers(records::copy(bytes, buffer)));
 }

@@ -6,20 +6,20 @@ use Prim.Native.Nat.{ℕ}
 use lib.IntN.{ℤ, pos}
 use lib.Signed.{◌≤ℤ◌, ◌<ℤ◌}
 use Rattle.laws.specs.Lists.{In}
-use Rattle.laws.proofs.Order.{less-or, pos-ne}
+use Rattle.laws.proofs.Order.{less_or, pos_ne}
 use Rattle.touches.specs.declared.Point.{Point}
 use Rattle.volume.specs.Volume.{Vol}
-use Rattle.volume.proofs.VolumeLaws.{turn-abc}
+use Rattle.volume.proofs.VolumeLaws.{turn_abc}
 use Rattle.rules.specs.Faces.{Face, Places}
 use Rattle.cover.specs.Cones.{det, InsideCone}
-use Rattle.cover.proofs.DetLaws.{turn-pos}
+use Rattle.cover.proofs.DetLaws.{turn_pos}
 use Rattle.cover.proofs.Heights.{height, down, down_lt, Tells}
 
 -- face f read from its corner a, with the touches of the list l at v: it is turned outward, no touch is in front of it, and its cone is that of f
 pub record Read (v : Places) (l : List ℕ) (f : Face) (a b c : ℕ) : Type 0 where
   pub a_in : In a l
-  pub b-in : In b l
-  pub c-in : In c l
+  pub b_in : In b l
+  pub c_in : In c l
   pub outward : pos 0 <ℤ det (v a) (v b) (v c)
   pub behind : (t : ℕ) → In t l → pos 0 ≤ℤ Vol (v a) (v b) (v c) (v t)
   pub inside : (x : Point) → InsideCone v (a ∷ b ∷ c ∷ []) x → InsideCone v f x
@@ -28,9 +28,9 @@ pub record Read (v : Places) (l : List ℕ) (f : Face) (a b c : ℕ) : Type 0 wh
 pub record Middle (m : Point) (v : Places) (l : List ℕ) (t : ℕ) : Type 0 where
   pub u : ℕ
   pub w : ℕ
-  pub t-in : In t l
-  pub u-in : In u l
-  pub w-in : In w l
+  pub t_in : In t l
+  pub u_in : In u l
+  pub w_in : In w l
   pub over : height m (v t) <ℤ height m (v u)
   pub under : height m (v w) <ℤ height m (v t)
 
@@ -46,33 +46,33 @@ Sorted m v l f = ((t : ℕ) × Rising m v l f t) ⊎ ((t : ℕ) × Falling m v l
 
 module _ {v : Places} {l : List ℕ} {f : Face} where
   -- what falls rises by the form the other way up
-  pub fall-rise : {m : Point} {t : ℕ} → Falling m v l f t → Rising (down m) v l f t
-  fall-rise {m} {t} (k, r) = (record { u = k.w; w = k.u; t-in = k.t-in; u-in = k.w-in; w-in = k.u-in; over = down_lt m (v k.w) (v t) k.under; under = down_lt m (v t) (v k.u) k.over }, r)
+  pub fall_rise : {m : Point} {t : ℕ} → Falling m v l f t → Rising (down m) v l f t
+  fall_rise {m} {t} (k, r) = (record { u = k.w; w = k.u; t_in = k.t_in; u_in = k.w_in; w_in = k.u_in; over = down_lt m (v k.w) (v t) k.under; under = down_lt m (v t) (v k.u) k.over }, r)
 
   -- read from the next corner
   next : {a b c : ℕ} → Read v l f a b c → Read v l f b c a
   next {a} {b} {c} r = record {
-    a_in = r.b-in;
-    b-in = r.c-in;
-    c-in = r.a_in;
-    outward = turn-pos (v a) (v b) (v c) r.outward;
-    behind = λ t i. subst (λ (z : ℤ). pos 0 ≤ℤ z) (sym (turn-abc (v a) (v b) (v c) (v t))) (r.behind t i);
+    a_in = r.b_in;
+    b_in = r.c_in;
+    c_in = r.a_in;
+    outward = turn_pos (v a) (v b) (v c) r.outward;
+    behind = λ t i. subst (λ (z : ℤ). pos 0 ≤ℤ z) (sym (turn_abc (v a) (v b) (v c) (v t))) (r.behind t i);
     inside = λ x n. r.inside x (record { outward = r.outward; ab = n.ca; bc = n.ab; ca = n.bc });
   }
 
   module _ (m : Point) where
     rising : {a b c : ℕ} → Read v l f a b c → height m (v a) <ℤ height m (v b) → height m (v c) <ℤ height m (v a) → Sorted m v l f
-    rising {a} {b} {c} r h k = inl (a, (record { u = b; w = c; t-in = r.a_in; u-in = r.b-in; w-in = r.c-in; over = h; under = k }, r))
+    rising {a} {b} {c} r h k = inl (a, (record { u = b; w = c; t_in = r.a_in; u_in = r.b_in; w_in = r.c_in; over = h; under = k }, r))
 
     falling : {a b c : ℕ} → Read v l f a b c → height m (v b) <ℤ height m (v a) → height m (v a) <ℤ height m (v c) → Sorted m v l f
-    falling {a} {b} {c} r h k = inr (a, (record { u = c; w = b; t-in = r.a_in; u-in = r.c-in; w-in = r.b-in; over = k; under = h }, r))
+    falling {a} {b} {c} r h k = inr (a, (record { u = c; w = b; t_in = r.a_in; u_in = r.c_in; w_in = r.b_in; over = k; under = h }, r))
 
     -- the corners are at three heights, so one of them is the middle
     pub sorted : Tells m v l → {a b c : ℕ} → Read v l f a b c → Sorted m v l f
     sorted tells {a} {b} {c} r = go (order r) (order (next r)) (order (next (next r)))
       where
         order : {a b c : ℕ} → Read v l f a b c → (height m (v a) <ℤ height m (v b)) ⊎ (height m (v b) <ℤ height m (v a))
-        order {a} {b} {c} r = less-or (height m (v a)) (height m (v b)) (tells a b c r.a_in r.b-in r.c-in (pos-ne r.outward))
+        order {a} {b} {c} r = less_or (height m (v a)) (height m (v b)) (tells a b c r.a_in r.b_in r.c_in (pos_ne r.outward))
 
         A : ℤ
         A = height m (v a)

@@ -2,7 +2,7 @@
 use Rattle.std.specs.Prelude.{◌≡◌, false, List, ℕ, ℤ, pos, ◌-ℤ◌, ◌*ℤ◌, ◌≤ℤ◌, ◌<ℤ◌}
 use Rattle.laws.specs.Lists.{In, Pw}
 use Rattle.touches.specs.declared.Point.{Point}
-use Rattle.volume.specs.Volume.{Vol, det3, inLine}
+use Rattle.volume.specs.Volume.{Vol, det3, in_line}
 use Rattle.rules.specs.Faces.{Face, Places, corner}
 
 -- the determinant of three vectors
@@ -32,7 +32,7 @@ pub record Centre (p : Places) (done : List ℕ) : Type 0 where
   pub w : ℤ
   pub s : Point
   pub positive : pos 0 <ℤ w
-  pub amid : (a b c : Point) → inLine a b c ≡ false → ((t : ℕ) → In t done → pos 0 ≤ℤ Vol a b c (p t)) → pos 0 <ℤ det (from w s a) (from w s b) (from w s c)
+  pub amid : (a b c : Point) → in_line a b c ≡ false → ((t : ℕ) → In t done → pos 0 ≤ℤ Vol a b c (p t)) → pos 0 <ℤ det (from w s a) (from w s b) (from w s c)
 
 -- the touches as vectors from it
 abbrev pub rays : {p : Places} {done : List ℕ} → Centre p done → Places

@@ -9,111 +9,111 @@ use native.Mathlib.Omega.{arith}
 use lib.IntN.{ℤ, pos}
 use lib.Signed.{◌<ℤ◌}
 use lib.ListN.{length, drop}
-use Rattle.laws.proofs.Tables.{length-lay, lay-rest}
+use Rattle.laws.proofs.Tables.{length_lay, lay_rest}
 use Rattle.touches.specs.declared.Point.{Point}
-use Rattle.touches.specs.Limits.{mostTouches, placeInRange}
-use Rattle.touches.specs.Touches.{touch, touchCount, Sound}
-use Rattle.touches.specs.Refusals.{allTouchesOnOnePlane, faceTableTooSmall, because}
-use Rattle.touches.proofs.SoundLaws.{sound-accepted}
+use Rattle.touches.specs.Limits.{most_touches, place_in_range}
+use Rattle.touches.specs.Touches.{touch, touch_count, Sound}
+use Rattle.touches.specs.Refusals.{all_touches_on_one_plane, face_table_too_small, because}
+use Rattle.touches.proofs.SoundLaws.{sound_accepted}
 use Rattle.rules.specs.Faces.{Face}
 use Rattle.rules.specs.Building.{volume}
 use Rattle.rules.specs.Placing.{lies}
 use Rattle.rules.specs.Demands.{Surface}
-use Rattle.rules.proofs.Theorems.{flat-exact, hull-surface, accepted-few}
+use Rattle.rules.proofs.Theorems.{flat_exact, hull_surface, accepted_few}
 use Rattle.cover.specs.Room.{enough}
-use Rattle.cover.proofs.Theorems.{hull-no-overlap, hull-few}
-use Rattle.table.specs.Table.{stride, room, lent, firstFaces, facesIn}
-use Rattle.table.proofs.LentLaws.{length-lent}
-use Rattle.hull.specs.Build.{built, builtCount}
-use Rattle.hull.specs.Place.{placedBy, placed}
+use Rattle.cover.proofs.Theorems.{hull_no_overlap, hull_few}
+use Rattle.table.specs.Table.{stride, room, lent, first_faces, faces_in}
+use Rattle.table.proofs.LentLaws.{length_lent}
+use Rattle.hull.specs.Build.{built, built_count}
+use Rattle.hull.specs.Place.{placed_by, placed}
 use Rattle.hull.specs.declared.build.Built.TheVariants.{Refused}
 use Rattle.hull.proofs.Inversion.{Inverted}
-use Rattle.hull.proofs.CallLaws.{hull-back, call-places}
-use Rattle.demands.specs.Demands.{AllFlat, NoRoom, buildOrder, afterBuild, front, triangles, place, IsHull}
-use Rattle.demands.proofs.ListLaws.{none-applies}
-use Rattle.demands.proofs.CallFirsts.{build-first}
+use Rattle.hull.proofs.CallLaws.{hull_back, call_places}
+use Rattle.demands.specs.Demands.{AllFlat, NoRoom, build_order, after_build, front, triangles, place, IsHull}
+use Rattle.demands.proofs.ListLaws.{none_applies}
+use Rattle.demands.proofs.CallFirsts.{build_first}
 
 -- ---- building was accepted
 module _ {cs : List ℤ} {old : List ℕ} {n : ℕ} {v : ℤ} {h : List Face} (i : Inverted cs old n v h) where
-  pub by_count : front cs old ≡ firstFaces n (afterBuild cs old)
-  by_count = ap (λ (m : ℕ). firstFaces m (afterBuild cs old)) (ap builtCount i.answer)
+  pub by_count : front cs old ≡ first_faces n (after_build cs old)
+  by_count = ap (λ (m : ℕ). first_faces m (after_build cs old)) (ap built_count i.answer)
 
-  pub front-is : front cs old ≡ lent h
-  front-is = by_count ∙ i.part
+  pub front_is : front cs old ≡ lent h
+  front_is = by_count ∙ i.part
 
-  pub place_is : (q : Point) → placeInRange q ≡ true → place cs old q ≡ placedBy (lies (touch cs) h q)
-  place_is q w = ap (λ (t : List ℕ). placed cs t q) by_count ∙ call-places i q w
+  pub place_is : (q : Point) → place_in_range q ≡ true → place cs old q ≡ placed_by (lies (touch cs) h q)
+  place_is q w = ap (λ (t : List ℕ). placed cs t q) by_count ∙ call_places i q w
 
-  pub triangles-are : triangles cs old ≡ h
-  triangles-are = ap facesIn front-is ∙ hull-back i.sound i.is
+  pub triangles_are : triangles cs old ≡ h
+  triangles_are = ap faces_in front_is ∙ hull_back i.sound i.is
 
-  surface : Surface (touch cs) (touchCount cs) (triangles cs old)
-  surface = hull-surface (touch cs) (touchCount cs) (i.is ∙ ap some (sym triangles-are))
+  surface : Surface (touch cs) (touch_count cs) (triangles cs old)
+  surface = hull_surface (touch cs) (touch_count cs) (i.is ∙ ap some (sym triangles_are))
 
   sum_is : v ≡ volume (touch cs) (triangles cs old)
-  sum_is = i.sum ∙ ap (volume (touch cs)) (sym triangles-are)
+  sum_is = i.sum ∙ ap (volume (touch cs)) (sym triangles_are)
 
-  numbers-are : n * stride ≡ length (lent h)
-  numbers-are = ap (λ (m : ℕ). m * stride) i.count ∙ sym (length-lent h)
+  numbers_are : n * stride ≡ length (lent h)
+  numbers_are = ap (λ (m : ℕ). m * stride) i.count ∙ sym (length_lent h)
 
-  rest-is : drop (n * stride) (afterBuild cs old) ≡ drop (n * stride) old
-  rest-is = rw (i.table, numbers-are) (lay-rest (lent h) old)
+  rest_is : drop (n * stride) (after_build cs old) ≡ drop (n * stride) old
+  rest_is = rw (i.table, numbers_are) (lay_rest (lent h) old)
 
-  long-is : length (afterBuild cs old) ≡ length old
-  long-is = ap length i.table ∙ length-lay 0 (lent h) old (omega (arith, length-lent h, i.fits))
+  long_is : length (after_build cs old) ≡ length old
+  long_is = ap length i.table ∙ length_lay 0 (lent h) old (omega (arith, length_lent h, i.fits))
 
-  pub is-hull : IsHull cs old n v
-  is-hull = record {
-    textbook = i.is ∙ ap some (sym triangles-are);
+  pub is_hull : IsHull cs old n v
+  is_hull = record {
+    textbook = i.is ∙ ap some (sym triangles_are);
     closed = surface.closed;
     behind = surface.behind;
     corners = surface.corners;
-    off-line = surface.off-line;
-    no-overlap = hull-no-overlap (touch cs) (touchCount cs) (i.is ∙ ap some (sym triangles-are));
-    count = i.count ∙ ap length (sym triangles-are);
+    off_line = surface.off_line;
+    no_overlap = hull_no_overlap (touch cs) (touch_count cs) (i.is ∙ ap some (sym triangles_are));
+    count = i.count ∙ ap length (sym triangles_are);
     fits = omega (arith, i.count, i.fits);
-    few = omega (arith, i.count, hull-few (touch cs) (touchCount cs) i.is);
-    most = omega (arith, i.count, hull-few (touch cs) (touchCount cs) i.is, accepted-few i.sound);
+    few = omega (arith, i.count, hull_few (touch cs) (touch_count cs) i.is);
+    most = omega (arith, i.count, hull_few (touch cs) (touch_count cs) i.is, accepted_few i.sound);
     sum = sum_is;
     positive = subst (λ (z : ℤ). pos 0 <ℤ z) (sym sum_is) surface.positive;
-    rest = rest-is;
-    long = long-is;
+    rest = rest_is;
+    long = long_is;
   }
 
 -- ---- refused as flat
 module _ (cs : List ℤ) (old : List ℕ) where
-  pub flat-to : built cs old ≡ Refused (because allTouchesOnOnePlane) → Sound cs × AllFlat cs
-  flat-to e = go ((build-first cs old (because allTouchesOnOnePlane)).0 e)
+  pub flat_to : built cs old ≡ Refused (because all_touches_on_one_plane) → Sound cs × AllFlat cs
+  flat_to e = go ((build_first cs old (because all_touches_on_one_plane)).0 e)
     where
-      go : buildOrder cs old (because allTouchesOnOnePlane) → Sound cs × AllFlat cs
+      go : build_order cs old (because all_touches_on_one_plane) → Sound cs × AllFlat cs
       go (inl u) = absurd (omega (arith, u.0))
       go (inr (a, inl u)) = absurd (omega (arith, u.0))
       go (inr (a, inr (b, inl u))) = absurd (omega (arith, u.0))
-      go (inr (a, inr (b, inr (c, inl u)))) = (none-applies cs a b c, u.1.1)
+      go (inr (a, inr (b, inr (c, inl u)))) = (none_applies cs a b c, u.1.1)
       go (inr (a, inr (b, inr (c, inr (d, inl u))))) = absurd (omega (arith, u.0))
       go (inr (a, inr (b, inr (c, inr (d, inr u))))) = absurd u.1
 
-  flat-from : Sound cs × AllFlat cs → built cs old ≡ Refused (because allTouchesOnOnePlane)
-  flat-from u = rw (sound-accepted cs u.0, (flat-exact (touch cs) (touchCount cs)).1 u.1)
+  flat_from : Sound cs × AllFlat cs → built cs old ≡ Refused (because all_touches_on_one_plane)
+  flat_from u = rw (sound_accepted cs u.0, (flat_exact (touch cs) (touch_count cs)).1 u.1)
 
-  pub flat-is : (built cs old ≡ Refused (because allTouchesOnOnePlane)) ↔ (Sound cs × AllFlat cs)
-  flat-is = (flat-to, flat-from)
+  pub flat_is : (built cs old ≡ Refused (because all_touches_on_one_plane)) ↔ (Sound cs × AllFlat cs)
+  flat_is = (flat_to, flat_from)
 
 -- ---- refused for want of room
 module _ (cs : List ℤ) (old : List ℕ) where
-  no_room : built cs old ≡ Refused (because faceTableTooSmall) → Sound cs × NoRoom cs old
-  no_room e = go ((build-first cs old (because faceTableTooSmall)).0 e)
+  no_room : built cs old ≡ Refused (because face_table_too_small) → Sound cs × NoRoom cs old
+  no_room e = go ((build_first cs old (because face_table_too_small)).0 e)
     where
-      go : buildOrder cs old (because faceTableTooSmall) → Sound cs × NoRoom cs old
+      go : build_order cs old (because face_table_too_small) → Sound cs × NoRoom cs old
       go (inl u) = absurd (omega (arith, u.0))
       go (inr (a, inl u)) = absurd (omega (arith, u.0))
       go (inr (a, inr (b, inl u))) = absurd (omega (arith, u.0))
       go (inr (a, inr (b, inr (c, inl u)))) = absurd (omega (arith, u.0))
-      go (inr (a, inr (b, inr (c, inr (d, inl u))))) = (none-applies cs a b c, u.1.1)
+      go (inr (a, inr (b, inr (c, inr (d, inl u))))) = (none_applies cs a b c, u.1.1)
       go (inr (a, inr (b, inr (c, inr (d, inr u))))) = absurd u.1
 
-  pub room-enough : enough (touchCount cs) ≤ room old → built cs old ≡ Refused (because faceTableTooSmall) → ⊥
-  room-enough l e = let u = (no_room e).1 in omega (arith, u.2, hull-few (touch cs) (touchCount cs) u.1)
+  pub room_enough : enough (touch_count cs) ≤ room old → built cs old ≡ Refused (because face_table_too_small) → ⊥
+  room_enough l e = let u = (no_room e).1 in omega (arith, u.2, hull_few (touch cs) (touch_count cs) u.1)
 
-  pub room-always : enough mostTouches ≤ room old → built cs old ≡ Refused (because faceTableTooSmall) → ⊥
-  room-always l e = room-enough (omega (arith, accepted-few (no_room e).0)) e
+  pub room_always : enough most_touches ≤ room old → built cs old ≡ Refused (because face_table_too_small) → ⊥
+  room_always l e = room_enough (omega (arith, accepted_few (no_room e).0)) e

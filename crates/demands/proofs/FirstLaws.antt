@@ -41,9 +41,9 @@ past d (inr u) = u.1
 
 module _ {A : Type 0} (refused : Refusal → A) (same : (r s : Refusal) → refused r ≡ refused s → r ≡ s) where
   -- number n is given where C holds
-  pub where-so : (C : Type 0) (n : ℕ) (x : A) (later : Refusal → Type 0) → Dec C → (C → x ≡ refused (because n)) → ((C → ⊥) → (r : Refusal) → (x ≡ refused r) ↔ later r)
+  pub where_so : (C : Type 0) (n : ℕ) (x : A) (later : Refusal → Type 0) → Dec C → (C → x ≡ refused (because n)) → ((C → ⊥) → (r : Refusal) → (x ≡ refused r) ↔ later r)
       → (r : Refusal) → (x ≡ refused r) ↔ first n (at0 C) later r
-  where-so C n x later (yes c) so after r = (to, from)
+  where_so C n x later (yes c) so after r = (to, from)
     where
       to : x ≡ refused r → first n (at0 C) later r
       to e = let t : because n ≡ r = same (because n) r (sym (so c) ∙ e) in inl (ap (λ (s : Refusal). s.number) (sym t), (ap (λ (s : Refusal). s.place.0) (sym t), c))
@@ -51,7 +51,7 @@ module _ {A : Type 0} (refused : Refusal → A) (same : (r s : Refusal) → refu
       from : first n (at0 C) later r → x ≡ refused r
       from (inl u) = so c ∙ ap refused (refusal_is u.0 u.1.0)
       from (inr u) = absurd (u.0 0 (refl, c))
-  where-so C n x later (no d) so after r = (to, from)
+  where_so C n x later (no d) so after r = (to, from)
     where
       to : x ≡ refused r → first n (at0 C) later r
       to e = inr ((λ k u. d u.1), (after d r).0 e)
@@ -61,22 +61,22 @@ module _ {A : Type 0} (refused : Refusal → A) (same : (r s : Refusal) → refu
       from (inr u) = (after d r).1 u.1
 
   -- number n is given unless E holds
-  pub unless-so : (E : Type 0) (n : ℕ) (x : A) (later : Refusal → Type 0) → Dec E → ((E → ⊥) → x ≡ refused (because n)) → (E → (r : Refusal) → (x ≡ refused r) ↔ later r)
+  pub unless_so : (E : Type 0) (n : ℕ) (x : A) (later : Refusal → Type 0) → Dec E → ((E → ⊥) → x ≡ refused (because n)) → (E → (r : Refusal) → (x ≡ refused r) ↔ later r)
       → (r : Refusal) → (x ≡ refused r) ↔ first n (at0 (E → ⊥)) later r
-  unless-so E n x later (yes e) so after = where-so (E → ⊥) n x later (no (λ d. d e)) (λ d. absurd (d e)) (λ d. after e)
-  unless-so E n x later (no d) so after = where-so (E → ⊥) n x later (yes d) (λ c. so d) (λ c. absurd (c d))
+  unless_so E n x later (yes e) so after = where_so (E → ⊥) n x later (no (λ d. d e)) (λ d. absurd (d e)) (λ d. after e)
+  unless_so E n x later (no d) so after = where_so (E → ⊥) n x later (yes d) (λ c. so d) (λ c. absurd (c d))
 
   -- number n is given where a is too small for b
-  pub where-less : (a b n : ℕ) (x : A) (later : Refusal → Type 0) → (a < b → x ≡ refused (because n)) → (b ≤ a → (r : Refusal) → (x ≡ refused r) ↔ later r)
+  pub where_less : (a b n : ℕ) (x : A) (later : Refusal → Type 0) → (a < b → x ≡ refused (because n)) → (b ≤ a → (r : Refusal) → (x ≡ refused r) ↔ later r)
       → (r : Refusal) → (x ≡ refused r) ↔ first n (at0 (a < b)) later r
-  where-less a b n x later so after = go (dec_le b a)
+  where_less a b n x later so after = go (dec_le b a)
     where
       go : Dec (b ≤ a) → (r : Refusal) → (x ≡ refused r) ↔ first n (at0 (a < b)) later r
-      go (no f) = let l : a < b = omega (arith, f) in where-so (a < b) n x later (yes l) so (λ c. absurd (c l))
-      go (yes l) = where-so (a < b) n x later (no (λ k. omega arith)) so (λ c. after l)
+      go (no f) = let l : a < b = omega (arith, f) in where_so (a < b) n x later (yes l) so (λ c. absurd (c l))
+      go (yes l) = where_so (a < b) n x later (no (λ k. omega arith)) so (λ c. after l)
 
   -- a test gives the answer y, or number n
   pub tested : {E : Type 0} {b : Bool} → Tests E b → (n : ℕ) (y : A) (later : Refusal → Type 0) → ((r : Refusal) → (y ≡ refused r) ↔ later r)
       → (r : Refusal) → (pick b y (refused (because n)) ≡ refused r) ↔ first n (at0 (E → ⊥)) later r
   tested {E} {b} t n y later h =
-      unless-so E n (pick b y (refused (because n))) later (decided t) (λ d. ap (λ (c : Bool). pick c y (refused (because n))) (failed t d)) (λ e. rw (t.holds e) h)
+      unless_so E n (pick b y (refused (because n))) later (decided t) (λ d. ap (λ (c : Bool). pick c y (refused (because n))) (failed t d)) (λ e. rw (t.holds e) h)

@@ -5,44 +5,44 @@ use mathlib.Core.Bool.{true, ◌&&◌}
 use mathlib.Core.List.{List}
 use Prim.Native.Nat.{ℕ}
 use lib.IntN.{ℤ}
-use Rattle.laws.proofs.Exact.{e-exactly}
+use Rattle.laws.proofs.Exact.{e_exactly}
 use Rattle.touches.specs.Limits.{in_range}
-use Rattle.touches.specs.Touches.{touch, touchCount}
-use Rattle.touches.proofs.SoundLaws.{within-range}
+use Rattle.touches.specs.Touches.{touch, touch_count}
+use Rattle.touches.proofs.SoundLaws.{within_range}
 use Rattle.rules.specs.Faces.{Face}
 use Rattle.rules.specs.Plumb.{Fraction}
 use Rattle.rules.specs.Heights.{over, up, down, Spans, Fits}
-use Rattle.rules.proofs.PlumbLaws.{hull-spans, hull-places, accepted-bounds}
+use Rattle.rules.proofs.PlumbLaws.{hull_spans, hull_places, accepted_bounds}
 use Rattle.plumb.specs.Plumb.{plumbed}
-use Rattle.plumb.proofs.PlumbCallLaws.{call-misses, call-touches, call-through}
+use Rattle.plumb.proofs.PlumbCallLaws.{call_misses, call_touches, call_through}
 use Rattle.hull.proofs.Inversion.{Inverted}
 use Rattle.demands.specs.Demands.{InRange, triangles, ExactHeight, PlumbLine}
-use Rattle.demands.proofs.ReasonLaws.{column-tests}
-use Rattle.demands.proofs.BuiltLaws.{triangles-are}
-use Rattle.demands.proofs.PlacedLaws.{hull-within}
+use Rattle.demands.proofs.ReasonLaws.{column_tests}
+use Rattle.demands.proofs.BuiltLaws.{triangles_are}
+use Rattle.demands.proofs.PlacedLaws.{hull_within}
 
-exact-height : {t : Fraction} → Fits t → ExactHeight t
-exact-height f = record { top = e-exactly tt f.top; bottom = e-exactly tt f.bottom }
+exact_height : {t : Fraction} → Fits t → ExactHeight t
+exact_height f = record { top = e_exactly tt f.top; bottom = e_exactly tt f.bottom }
 
 module _ {cs : List ℤ} {old : List ℕ} {n : ℕ} {v : ℤ} {h : List Face} (i : Inverted cs old n v h) (x y : ℤ) (hx : InRange x) (hy : InRange y) where
   column : in_range x && in_range y ≡ true
-  column = (column-tests x y).holds (hx, hy)
+  column = (column_tests x y).holds (hx, hy)
 
-  over-hull : PlumbLine cs old h x y (plumbed cs x y)
-  over-hull = record {
+  over_hull : PlumbLine cs old h x y (plumbed cs x y)
+  over_hull = record {
     lower = lower;
     upper = upper;
     tightest = spans.2;
-    exact-lower = exact-height (accepted-bounds i.sound i.is x y hx hy down spans.2.lower.is);
-    exact-upper = exact-height (accepted-bounds i.sound i.is x y hx hy up spans.2.upper.is);
-    misses = call-misses i.sound i.is x y column;
-    touches = call-touches i.sound i.is x y column;
-    through = call-through i.sound i.is x y column;
-    between = λ z hz. Iff.trans (hull-within i (over x y z) (ap₂ ◌&&◌ column (within-range z hz))) (hull-places (touch cs) (touchCount cs) i.is x y z);
+    exact_lower = exact_height (accepted_bounds i.sound i.is x y hx hy down spans.2.lower.is);
+    exact_upper = exact_height (accepted_bounds i.sound i.is x y hx hy up spans.2.upper.is);
+    misses = call_misses i.sound i.is x y column;
+    touches = call_touches i.sound i.is x y column;
+    through = call_through i.sound i.is x y column;
+    between = λ z hz. Iff.trans (hull_within i (over x y z) (ap₂ ◌&&◌ column (within_range z hz))) (hull_places (touch cs) (touch_count cs) i.is x y z);
   }
     where
       spans : (l u : Fraction) × Spans (touch cs) h x y l u
-      spans = hull-spans (touch cs) (touchCount cs) i.is x y
+      spans = hull_spans (touch cs) (touch_count cs) i.is x y
 
       lower : Fraction
       lower = spans.0
@@ -50,5 +50,5 @@ module _ {cs : List ℤ} {old : List ℕ} {n : ℕ} {v : ℤ} {h : List Face} (i
       upper : Fraction
       upper = spans.1
 
-  pub plumb-line : PlumbLine cs old (triangles cs old) x y (plumbed cs x y)
-  plumb-line = subst (λ (g : List Face). PlumbLine cs old g x y (plumbed cs x y)) (sym (triangles-are i)) over-hull
+  pub plumb_line : PlumbLine cs old (triangles cs old) x y (plumbed cs x y)
+  plumb_line = subst (λ (g : List Face). PlumbLine cs old g x y (plumbed cs x y)) (sym (triangles_are i)) over_hull

@@ -1,61 +1,61 @@
 -- The demands hold.
 use mathlib.Core.Path.{ap}
 use mathlib.Core.List.{◌++◌}
-use Rattle.laws.proofs.Exact.{plus-zero-is}
-use Rattle.touches.specs.Check.{checkedRefusal, checkedCount}
-use Rattle.touches.proofs.SoundLaws.{sound-accepted, near-place}
-use Rattle.hull.specs.Build.{hullOf, tableAfter}
+use Rattle.laws.proofs.Exact.{plus_zero_is}
+use Rattle.touches.specs.Check.{checked_refusal, checked_count}
+use Rattle.touches.proofs.SoundLaws.{sound_accepted, near_place}
+use Rattle.hull.specs.Build.{hull_of, table_after}
 use Rattle.hull.specs.declared.build.Built.{Built}
 use Rattle.hull.proofs.Inversion.{inverted}
-use Rattle.records.specs.Record.{plainVersion, recordOf, touchesIn}
-use Rattle.records.specs.Answers.{listAfter, bufferAfter}
+use Rattle.records.specs.Record.{plain_version, record_of, touches_in}
+use Rattle.records.specs.Answers.{list_after, buffer_after}
 use Rattle.records.specs.declared.ReadAnswer.{ReadAnswer}
 use Rattle.records.specs.declared.WriteAnswer.{WriteAnswer}
 use Rattle.demands.specs.Demands.{Demands}
-use Rattle.demands.proofs.ListLaws.{check-first}
-use Rattle.demands.proofs.CallFirsts.{build-first, place-first, plane-first, reading-first, plumb-first}
-use Rattle.demands.proofs.RecordFirsts.{read_first, write-first, copy-first}
-use Rattle.demands.proofs.BuiltLaws.{is-hull, flat-is, room-enough, room-always}
-use Rattle.demands.proofs.GrowLaws.{grows, never-flat}
-use Rattle.demands.proofs.ExactLaws.{volume-exact, planes-exact, readings-exact}
-use Rattle.demands.proofs.TripLaws.{trip-list, trip-record}
-use Rattle.demands.proofs.PlacedLaws.{placings, astray-on, hull-answers, inside_one}
-use Rattle.demands.proofs.SameLaws.{same_case, same-flat}
-use Rattle.demands.proofs.PlumbLineLaws.{plumb-line}
+use Rattle.demands.proofs.ListLaws.{check_first}
+use Rattle.demands.proofs.CallFirsts.{build_first, place_first, plane_first, reading_first, plumb_first}
+use Rattle.demands.proofs.RecordFirsts.{read_first, write_first, copy_first}
+use Rattle.demands.proofs.BuiltLaws.{is_hull, flat_is, room_enough, room_always}
+use Rattle.demands.proofs.GrowLaws.{grows, never_flat}
+use Rattle.demands.proofs.ExactLaws.{volume_exact, planes_exact, readings_exact}
+use Rattle.demands.proofs.TripLaws.{trip_list, trip_record}
+use Rattle.demands.proofs.PlacedLaws.{placings, astray_on, hull_answers, inside_one}
+use Rattle.demands.proofs.SameLaws.{same_case, same_flat}
+use Rattle.demands.proofs.PlumbLineLaws.{plumb_line}
 
 pub demands : Demands
 demands = record {
-  check-passed = λ cs d. (ap checkedRefusal (sound-accepted cs d), ap checkedCount (sound-accepted cs d));
-  check-refused = check-first;
-  build-refused = build-first;
-  place-refused = place-first;
-  plane-refused = plane-first;
-  reading-refused = reading-first;
-  plumb-refused = plumb-first;
-  read-refused = read_first;
-  write-refused = write-first;
-  copy-refused = copy-first;
-  build-untouched = λ cs old r e. ap (λ (a : Built). tableAfter a (hullOf cs) old) e;
-  read-untouched = λ b old r e. ap (λ (a : ReadAnswer). listAfter a (touchesIn b) old) e;
-  write-untouched = λ cs old r e. ap (λ (a : WriteAnswer). bufferAfter a (recordOf plainVersion cs) old) e;
-  copy-untouched = λ b old r e. ap (λ (a : WriteAnswer). bufferAfter a b old) e;
-  hull = λ cs old n v e. is-hull (inverted cs old e).1;
-  room-enough = room-enough;
-  room-always = room-always;
-  flat = flat-is;
-  written_read = trip-list;
-  read-written = trip-record;
+  check_passed = λ cs d. (ap checked_refusal (sound_accepted cs d), ap checked_count (sound_accepted cs d));
+  check_refused = check_first;
+  build_refused = build_first;
+  place_refused = place_first;
+  plane_refused = plane_first;
+  reading_refused = reading_first;
+  plumb_refused = plumb_first;
+  read_refused = read_first;
+  write_refused = write_first;
+  copy_refused = copy_first;
+  build_untouched = λ cs old r e. ap (λ (a : Built). table_after a (hull_of cs) old) e;
+  read_untouched = λ b old r e. ap (λ (a : ReadAnswer). list_after a (touches_in b) old) e;
+  write_untouched = λ cs old r e. ap (λ (a : WriteAnswer). buffer_after a (record_of plain_version cs) old) e;
+  copy_untouched = λ b old r e. ap (λ (a : WriteAnswer). buffer_after a b old) e;
+  hull = λ cs old n v e. is_hull (inverted cs old e).1;
+  room_enough = room_enough;
+  room_always = room_always;
+  flat = flat_is;
+  written_read = trip_list;
+  read_written = trip_record;
   grows = λ L M old new n m v w e f. grows L M (inverted L old e).1 (inverted (L ++ M) new f).1;
-  never-flat = never-flat;
-  volumes = λ a b c d. volume-exact;
-  planes = planes-exact;
-  readings = readings-exact;
-  plus-zero = plus-zero-is;
+  never_flat = never_flat;
+  volumes = λ a b c d. volume_exact;
+  planes = planes_exact;
+  readings = readings_exact;
+  plus_zero = plus_zero_is;
   placings = placings;
-  astray-on = astray-on;
-  never-astray = λ cs old n v e q near. hull-answers (inverted cs old e).1 q (near-place q near);
+  astray_on = astray_on;
+  never_astray = λ cs old n v e q near. hull_answers (inverted cs old e).1 q (near_place q near);
   inside_one = λ cs old n v e. inside_one (inverted cs old e).1;
-  order = λ L M old new n m v w same e f q near. same_case (inverted L old e).1 (inverted M new f).1 same q (near-place q near);
-  order-flat = same-flat;
-  plumb-line = λ cs old n v x y e hx hy. plumb-line (inverted cs old e).1 x y hx hy;
+  order = λ L M old new n m v w same e f q near. same_case (inverted L old e).1 (inverted M new f).1 same q (near_place q near);
+  order_flat = same_flat;
+  plumb_line = λ cs old n v x y e hx hy. plumb_line (inverted cs old e).1 x y hx hy;
 }

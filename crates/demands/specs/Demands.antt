@@ -1,42 +1,42 @@
 -- The demands, said of what the calls give: each sentence is one field of `Demands`, the last record here.
--- A call is named by the definition that its promise equals: checked, built, placed, planed, planeReading, plumbed, and of records read, written, copied (below). That every call ends, whoever makes it and with whatever lists, is the toolchain's own proof.
+-- A call is named by the definition that its promise equals: checked, built, placed, planed, plane_reading, plumbed, and of records read, written, copied (below). That every call ends, whoever makes it and with whatever lists, is the toolchain's own proof.
 use Rattle.std.specs.Prelude.{◌≡◌, ◌↔◌, ◌⊎◌, ◌≢◌, false, List, [], ◌++◌, ℕ, ◌+◌, ◌-◌, ◌*◌, ◌%◌, ◌<◌, ◌≤◌, ℤ, pos, neg_ℤ, ◌≤ℤ◌, ◌<ℤ◌, Float, length, take, drop, get_or}
 use Rattle.std.proofs.Math.Option.{Option, none, some}
 use Rattle.laws.specs.Numbers.{Within}
 use Rattle.laws.specs.Lists.{In}
-use Rattle.laws.specs.Doubles.{double, plusZero, Exactly}
+use Rattle.laws.specs.Doubles.{double, plus_zero, Exactly}
 use Rattle.touches.specs.declared.FaceNo.{FaceNo}
 use Rattle.touches.specs.declared.Point.{Point}
 use Rattle.touches.specs.declared.Refusal.{Refusal}
 use Rattle.touches.specs.declared.Checked.TheVariants.{Refused as CheckRefused}
-use Rattle.touches.specs.Limits.{mostTouches, mostFaces, reach}
-use Rattle.touches.specs.Touches.{touch, touchCount, Near, Sound, FirstStray}
-use Rattle.touches.specs.Refusals.{coordinatesNotInThrees, tooManyTouches, coordinateOutOfRange, allTouchesOnOnePlane, faceTableTooSmall, noSuchFace, placeOutOfRange, placeInNoTriangle, recordLengthWrong, recordVersionUnknown, recordTouchCutShort, touchRoomTooSmall, recordRoomTooSmall, because, noRefusal}
-use Rattle.touches.specs.Check.{checked, checkedRefusal, checkedCount}
-use Rattle.volume.specs.Volume.{Vol, normal, offset, inLine}
+use Rattle.touches.specs.Limits.{most_touches, most_faces, reach}
+use Rattle.touches.specs.Touches.{touch, touch_count, Near, Sound, FirstStray}
+use Rattle.touches.specs.Refusals.{coordinates_not_in_threes, too_many_touches, coordinate_out_of_range, all_touches_on_one_plane, face_table_too_small, no_such_face, place_out_of_range, place_in_no_triangle, record_length_wrong, record_version_unknown, record_touch_cut_short, touch_room_too_small, record_room_too_small, because, no_refusal}
+use Rattle.touches.specs.Check.{checked, checked_refusal, checked_count}
+use Rattle.volume.specs.Volume.{Vol, normal, offset, in_line}
 use Rattle.rules.specs.Faces.{Face, corner}
 use Rattle.rules.specs.Building.{volume}
-use Rattle.rules.specs.Demands.{Flat, Closed, FaceOf, OnOrInside, Inside as BehindAll, Outside as InFrontOfSome, Worst, FirstHolding, Astray, Case, outsideCase, onCase, insideCase, caseBefore}
+use Rattle.rules.specs.Demands.{Flat, Closed, FaceOf, OnOrInside, Inside as BehindAll, Outside as InFrontOfSome, Worst, FirstHolding, Astray, Case, outside_case, on_case, inside_case, case_before}
 use Rattle.rules.specs.Plumb.{Fraction}
 use Rattle.rules.specs.Heights.{over, whole, AtMost, Below, Equal, NoneRefuses, Spans}
 use Rattle.cover.specs.Triangles.{InFace, NoOverlap, InsideOneOrOnBorder}
 use Rattle.cover.specs.Room.{enough}
 use Rattle.cover.specs.Sets.{SamePlaces}
-use Rattle.table.specs.Table.{stride, room, firstFaces, facesIn}
-use Rattle.hull.specs.Build.{hullOf, built, tableAfter, builtCount}
+use Rattle.table.specs.Table.{stride, room, first_faces, faces_in}
+use Rattle.hull.specs.Build.{hull_of, built, table_after, built_count}
 use Rattle.hull.specs.Place.{placed}
 use Rattle.hull.specs.declared.build.Built.TheVariants.{Hull, Refused}
 use Rattle.hull.specs.declared.place.Placed.{Placed}
 use Rattle.hull.specs.declared.place.Placed.TheVariants.{Outside, On, Inside, Refused as PlaceRefused}
-use Rattle.planes.specs.Planes.{planed, planeReading}
+use Rattle.planes.specs.Planes.{planed, plane_reading}
 use Rattle.planes.specs.declared.Plane.{Plane}
 use Rattle.planes.specs.declared.Planed.TheVariants.{Of, Refused as PlaneRefused}
 use Rattle.planes.specs.declared.Reading.TheVariants.{Of as Reads, Refused as ReadingRefused}
 use Rattle.plumb.specs.Plumb.{rounded, plumbed}
 use Rattle.plumb.specs.declared.Plumbed.{Plumbed}
 use Rattle.plumb.specs.declared.Plumbed.TheVariants.{Misses, Touches as Grazes, Through, Refused as PlumbRefused}
-use Rattle.records.specs.Record.{plainVersion, recordOf, countIn, versionIn, touchesIn, AreBytes}
-use Rattle.records.specs.Answers.{read_of, writeOf, copy_of, listAfter, bufferAfter}
+use Rattle.records.specs.Record.{plain_version, record_of, count_in, version_in, touches_in, AreBytes}
+use Rattle.records.specs.Answers.{read_of, write_of, copy_of, list_after, buffer_after}
 use Rattle.records.specs.declared.ReadAnswer.{ReadAnswer}
 use Rattle.records.specs.declared.ReadAnswer.TheVariants.{Touches, Refused as ReadRefused}
 use Rattle.records.specs.declared.WriteAnswer.{WriteAnswer}
@@ -58,29 +58,29 @@ at0 reason k = (k ≡ 0) × reason
 -- ---- the reasons
 -- 2: more than 64 touches
 abbrev pub TooMany : List ℤ → Type 0
-TooMany cs = mostTouches * 3 < length cs
+TooMany cs = most_touches * 3 < length cs
 
 -- 4: every four touches have V = 0
 abbrev pub AllFlat : List ℤ → Type 0
-AllFlat cs = Flat (touch cs) (touchCount cs)
+AllFlat cs = Flat (touch cs) (touch_count cs)
 
 -- 5: the hull's faces are more than the lent table has room for
 abbrev pub NoRoom : List ℤ → List ℕ → Type 0
-NoRoom cs old = (h : List Face) × (hullOf cs ≡ some h) × (room old < length h)
+NoRoom cs old = (h : List Face) × (hull_of cs ≡ some h) × (room old < length h)
 
 -- 6: unless a table has whole faces, at least one and at most 1,344, and each of its numbers is one of n touches
 pub record Usable (n : ℕ) (t : List ℕ) : Type 0 where
   pub filled : 0 < length t
   pub whole : length t % stride ≡ 0
-  pub few : room t ≤ mostFaces
+  pub few : room t ≤ most_faces
   pub touches : (i : ℕ) → i < length t → get_or t i 0 < n
 
 -- 6, of a single face: unless its corners are touches, not in line
 pub record IsFace (cs : List ℤ) (a b c : ℕ) : Type 0 where
-  pub first-corner : a < touchCount cs
-  pub second-corner : b < touchCount cs
-  pub third-corner : c < touchCount cs
-  pub off-line : inLine (touch cs a) (touch cs b) (touch cs c) ≡ false
+  pub first_corner : a < touch_count cs
+  pub second_corner : b < touch_count cs
+  pub third_corner : c < touch_count cs
+  pub off_line : in_line (touch cs a) (touch cs b) (touch cs c) ≡ false
 
 -- 7, of the plumb line: unless x and y are in range
 abbrev pub InRange : ℤ → Type 0
@@ -88,111 +88,111 @@ InRange x = Within reach x
 
 -- 8: unless the record has three bytes or more and n is the count of bytes that follow it
 abbrev pub Sized : List ℕ → Type 0
-Sized b = (3 ≤ length b) × (countIn b ≡ length b - 2)
+Sized b = (3 ≤ length b) × (count_in b ≡ length b - 2)
 
 -- ---- each call's numbers, in its order
 -- 1, 2, 3 of a coordinate list, then the call's own
-abbrev pub listOrder : List ℤ → (Refusal → Type 0) → Refusal → Type 0
-listOrder cs later = first coordinatesNotInThrees (at0 (length cs % 3 ≢ 0)) (first tooManyTouches (at0 (TooMany cs)) (first coordinateOutOfRange (FirstStray cs) later))
+abbrev pub list_order : List ℤ → (Refusal → Type 0) → Refusal → Type 0
+list_order cs later = first coordinates_not_in_threes (at0 (length cs % 3 ≢ 0)) (first too_many_touches (at0 (TooMany cs)) (first coordinate_out_of_range (FirstStray cs) later))
 
 -- 1, 2, 3, 4, 5
-abbrev pub buildOrder : List ℤ → List ℕ → Refusal → Type 0
-buildOrder cs old = listOrder cs (first allTouchesOnOnePlane (at0 (AllFlat cs)) (first faceTableTooSmall (at0 (NoRoom cs old)) never))
+abbrev pub build_order : List ℤ → List ℕ → Refusal → Type 0
+build_order cs old = list_order cs (first all_touches_on_one_plane (at0 (AllFlat cs)) (first face_table_too_small (at0 (NoRoom cs old)) never))
 
 -- 1, 2, 3, 6, 7, 17
-abbrev pub placeOrder : List ℤ → List ℕ → Point → Refusal → Type 0
-placeOrder cs t q =
-    listOrder cs (first noSuchFace (at0 (Usable (touchCount cs) t → ⊥))
-    (first placeOutOfRange (at0 (Near q → ⊥))
-    (first placeInNoTriangle (at0 (Astray (touch cs) (facesIn t) q)) never)))
+abbrev pub place_order : List ℤ → List ℕ → Point → Refusal → Type 0
+place_order cs t q =
+    list_order cs (first no_such_face (at0 (Usable (touch_count cs) t → ⊥))
+    (first place_out_of_range (at0 (Near q → ⊥))
+    (first place_in_no_triangle (at0 (Astray (touch cs) (faces_in t) q)) never)))
 
 -- 1, 2, 3, 6
-abbrev pub planeOrder : List ℤ → ℕ → ℕ → ℕ → Refusal → Type 0
-planeOrder cs a b c = listOrder cs (first noSuchFace (at0 (IsFace cs a b c → ⊥)) never)
+abbrev pub plane_order : List ℤ → ℕ → ℕ → ℕ → Refusal → Type 0
+plane_order cs a b c = list_order cs (first no_such_face (at0 (IsFace cs a b c → ⊥)) never)
 
 -- 1, 2, 3, 6, 7
-abbrev pub readingOrder : List ℤ → ℕ → ℕ → ℕ → Point → Refusal → Type 0
-readingOrder cs a b c q = listOrder cs (first noSuchFace (at0 (IsFace cs a b c → ⊥)) (first placeOutOfRange (at0 (Near q → ⊥)) never))
+abbrev pub reading_order : List ℤ → ℕ → ℕ → ℕ → Point → Refusal → Type 0
+reading_order cs a b c q = list_order cs (first no_such_face (at0 (IsFace cs a b c → ⊥)) (first place_out_of_range (at0 (Near q → ⊥)) never))
 
 -- 1, 2, 3, 4, 7
-abbrev pub plumbOrder : List ℤ → ℤ → ℤ → Refusal → Type 0
-plumbOrder cs x y = listOrder cs (first allTouchesOnOnePlane (at0 (AllFlat cs)) (first placeOutOfRange (at0 (InRange x × InRange y → ⊥)) never))
+abbrev pub plumb_order : List ℤ → ℤ → ℤ → Refusal → Type 0
+plumb_order cs x y = list_order cs (first all_touches_on_one_plane (at0 (AllFlat cs)) (first place_out_of_range (at0 (InRange x × InRange y → ⊥)) never))
 
 -- 8, 9, 10, 2, 3 of a record, then the call's own
-abbrev pub recordOrder : List ℕ → (Refusal → Type 0) → Refusal → Type 0
-recordOrder b later =
-    first recordLengthWrong (at0 (Sized b → ⊥))
-    (first recordVersionUnknown (at0 (versionIn b ≢ plainVersion))
-    (first recordTouchCutShort (at0 ((countIn b - 1) % 6 ≢ 0))
-    (first tooManyTouches (at0 (TooMany (touchesIn b)))
-    (first coordinateOutOfRange (FirstStray (touchesIn b)) later))))
+abbrev pub record_order : List ℕ → (Refusal → Type 0) → Refusal → Type 0
+record_order b later =
+    first record_length_wrong (at0 (Sized b → ⊥))
+    (first record_version_unknown (at0 (version_in b ≢ plain_version))
+    (first record_touch_cut_short (at0 ((count_in b - 1) % 6 ≢ 0))
+    (first too_many_touches (at0 (TooMany (touches_in b)))
+    (first coordinate_out_of_range (FirstStray (touches_in b)) later))))
 
 -- 8, 9, 10, 2, 3, 11
-abbrev pub readOrder : List ℕ → List ℤ → Refusal → Type 0
-readOrder b old = recordOrder b (first touchRoomTooSmall (at0 (length old < touchCount (touchesIn b) * 3)) never)
+abbrev pub read_order : List ℕ → List ℤ → Refusal → Type 0
+read_order b old = record_order b (first touch_room_too_small (at0 (length old < touch_count (touches_in b) * 3)) never)
 
 -- 1, 2, 3, 12
-abbrev pub writeOrder : List ℤ → List ℕ → Refusal → Type 0
-writeOrder cs old = listOrder cs (first recordRoomTooSmall (at0 (length old < 3 + 6 * touchCount cs)) never)
+abbrev pub write_order : List ℤ → List ℕ → Refusal → Type 0
+write_order cs old = list_order cs (first record_room_too_small (at0 (length old < 3 + 6 * touch_count cs)) never)
 
 -- 8, 9, 10, 2, 3, 12
-abbrev pub copyOrder : List ℕ → List ℕ → Refusal → Type 0
-copyOrder b old = recordOrder b (first recordRoomTooSmall (at0 (length old < 3 + 6 * touchCount (touchesIn b))) never)
+abbrev pub copy_order : List ℕ → List ℕ → Refusal → Type 0
+copy_order b old = record_order b (first record_room_too_small (at0 (length old < 3 + 6 * touch_count (touches_in b))) never)
 
 -- ---- what the record calls answer, given what is lent to them: they read and write version 1
 abbrev pub read : List ℕ → List ℤ → ReadAnswer
-read b old = read_of plainVersion b (length old)
+read b old = read_of plain_version b (length old)
 
 abbrev pub written : List ℤ → List ℕ → WriteAnswer
-written cs old = writeOf cs (length old)
+written cs old = write_of cs (length old)
 
 abbrev pub copied : List ℕ → List ℕ → WriteAnswer
-copied b old = copy_of plainVersion b (length old)
+copied b old = copy_of plain_version b (length old)
 
 -- ---- what a lent table holds after a call, and held as old before it
-abbrev pub afterBuild : List ℤ → List ℕ → List ℕ
-afterBuild cs old = tableAfter (built cs old) (hullOf cs) old
+abbrev pub after_build : List ℤ → List ℕ → List ℕ
+after_build cs old = table_after (built cs old) (hull_of cs) old
 
-abbrev pub afterRead : List ℕ → List ℤ → List ℤ
-afterRead b old = listAfter (read b old) (touchesIn b) old
+abbrev pub after_read : List ℕ → List ℤ → List ℤ
+after_read b old = list_after (read b old) (touches_in b) old
 
-abbrev pub afterWrite : List ℤ → List ℕ → List ℕ
-afterWrite cs old = bufferAfter (written cs old) (recordOf plainVersion cs) old
+abbrev pub after_write : List ℤ → List ℕ → List ℕ
+after_write cs old = buffer_after (written cs old) (record_of plain_version cs) old
 
-abbrev pub afterCopy : List ℕ → List ℕ → List ℕ
-afterCopy b old = bufferAfter (copied b old) b old
+abbrev pub after_copy : List ℕ → List ℕ → List ℕ
+after_copy b old = buffer_after (copied b old) b old
 
 -- ==== 2: building was accepted, with n faces and the volume v
 -- the part of the table that holds the faces, and the triangles there
 abbrev pub front : List ℤ → List ℕ → List ℕ
-front cs old = firstFaces (builtCount (built cs old)) (afterBuild cs old)
+front cs old = first_faces (built_count (built cs old)) (after_build cs old)
 
 abbrev pub triangles : List ℤ → List ℕ → List Face
-triangles cs old = facesIn (front cs old)
+triangles cs old = faces_in (front cs old)
 
 pub record IsHull (cs : List ℤ) (old : List ℕ) (n : ℕ) (v : ℤ) : Type 0 where
   -- the triangle list equals the textbook's incremental hull, in the stated order
-  pub textbook : hullOf cs ≡ some (triangles cs old)
+  pub textbook : hull_of cs ≡ some (triangles cs old)
   -- every directed side occurs once and its reverse once
   pub closed : Closed (triangles cs old)
   -- every touch lies on or behind every face
-  pub behind : (t : ℕ) → t < touchCount cs → OnOrInside (touch cs) (triangles cs old) (touch cs t)
+  pub behind : (t : ℕ) → t < touch_count cs → OnOrInside (touch cs) (triangles cs old) (touch cs t)
   -- a face is three touches of the list, not in line
   pub corners : (f : Face) → In f (triangles cs old) → FaceOf cs f
-  pub off-line : (f : Face) → In f (triangles cs old) → inLine (touch cs (corner f 0)) (touch cs (corner f 1)) (touch cs (corner f 2)) ≡ false
+  pub off_line : (f : Face) → In f (triangles cs old) → in_line (touch cs (corner f 0)) (touch cs (corner f 1)) (touch cs (corner f 2)) ≡ false
   -- no two triangles overlap
-  pub no-overlap : NoOverlap (touch cs) (triangles cs old)
+  pub no_overlap : NoOverlap (touch cs) (triangles cs old)
   -- n counts the triangles: at most the lent room, and of t touches at most 2t − 4, so at most 124
   pub count : n ≡ length (triangles cs old)
   pub fits : n ≤ room old
-  pub few : n ≤ enough (touchCount cs)
-  pub most : n ≤ enough mostTouches
+  pub few : n ≤ enough (touch_count cs)
+  pub most : n ≤ enough most_touches
   -- v is the sum of V(face, touch 0), and above zero
   pub sum : v ≡ volume (touch cs) (triangles cs old)
   pub positive : pos 0 <ℤ v
   -- the rest of the table is as it was
-  pub rest : drop (n * stride) (afterBuild cs old) ≡ drop (n * stride) old
-  pub long : length (afterBuild cs old) ≡ length old
+  pub rest : drop (n * stride) (after_build cs old) ≡ drop (n * stride) old
+  pub long : length (after_build cs old) ≡ length old
 
 -- ==== 3: more touches at the end
 -- where placing finds q, against what building wrote
@@ -201,7 +201,7 @@ place cs old q = placed cs (front cs old) q
 
 -- some touch of M is outside the hull that building wrote for L
 abbrev pub SomeOutside : List ℤ → List ℕ → List ℤ → Type 0
-SomeOutside L old M = (t : ℕ) × (t < touchCount M) × (f : FaceNo) × (d : ℤ) × (place L old (touch M t) ≡ Outside f d)
+SomeOutside L old M = (t : ℕ) × (t < touch_count M) × (f : FaceNo) × (d : ℤ) × (place L old (touch M t) ≡ Outside f d)
 
 -- L was accepted, with n faces and the volume v, and so was L ++ M, with m faces and the volume w
 pub record Grows (L M : List ℤ) (old new : List ℕ) (n m : ℕ) (v w : ℤ) : Type 0 where
@@ -224,27 +224,27 @@ pub record ExactPlane (a b c : Point) (p : Plane) : Type 0 where
 
 -- ==== 02 A5 and A7: placing answered a, no refusal, against any table, hull or not
 -- 01's case of an answer
-abbrev pub caseAnswered : Placed → Option Case
-caseAnswered (Outside f d) = some outsideCase
-caseAnswered (On f) = some onCase
-caseAnswered Inside = some insideCase
-caseAnswered (PlaceRefused r) = none
+abbrev pub case_answered : Placed → Option Case
+case_answered (Outside f d) = some outside_case
+case_answered (On f) = some on_case
+case_answered Inside = some inside_case
+case_answered (PlaceRefused r) = none
 
 pub record IsPlaced (cs : List ℤ) (t : List ℕ) (q : Point) (a : Placed) : Type 0 where
   -- outside exactly if some face has V < 0, inside exactly if every face has V > 0
-  pub outside : ((f : FaceNo) × (d : ℤ) × (a ≡ Outside f d)) ↔ InFrontOfSome (touch cs) (facesIn t) q
-  pub inside : (a ≡ Inside) ↔ BehindAll (touch cs) (facesIn t) q
+  pub outside : ((f : FaceNo) × (d : ℤ) × (a ≡ Outside f d)) ↔ InFrontOfSome (touch cs) (faces_in t) q
+  pub inside : (a ≡ Inside) ↔ BehindAll (touch cs) (faces_in t) q
   -- on names the first face whose plane holds q and whose triangle contains it: q is a mixture of its corners
-  pub on : (f : FaceNo) → (a ≡ On f) ↔ (OnOrInside (touch cs) (facesIn t) q × FirstHolding (touch cs) (facesIn t) q f.0)
-  pub contained : (f : FaceNo) → a ≡ On f → InFace (touch cs) (get_or (facesIn t) f.0 []) q
+  pub on : (f : FaceNo) → (a ≡ On f) ↔ (OnOrInside (touch cs) (faces_in t) q × FirstHolding (touch cs) (faces_in t) q f.0)
+  pub contained : (f : FaceNo) → a ≡ On f → InFace (touch cs) (get_or (faces_in t) f.0 []) q
   -- the places are those of 01's three cases
-  pub as_before : caseAnswered a ≡ some (caseBefore (touch cs) (facesIn t) q)
+  pub as_before : case_answered a ≡ some (case_before (touch cs) (faces_in t) q)
   -- outside names the face with the least V, the first of equals, and gives minus that V
-  pub worst : (f : FaceNo) (d : ℤ) → (a ≡ Outside f d) ↔ (Worst (touch cs) (facesIn t) q f.0 (neg_ℤ d) × (pos 0 <ℤ d))
+  pub worst : (f : FaceNo) (d : ℤ) → (a ≡ Outside f d) ↔ (Worst (touch cs) (faces_in t) q f.0 (neg_ℤ d) × (pos 0 <ℤ d))
 
 -- ==== 02 A12: each touch of L is where some touch of M is, and the other way round
 abbrev pub SameTouches : List ℤ → List ℤ → Type 0
-SameTouches L M = SamePlaces (touch L) (touchCount L) (touch M) (touchCount M)
+SameTouches L M = SamePlaces (touch L) (touch_count L) (touch M) (touch_count M)
 
 -- ==== 02 A3: the plumb line at x and y is answered with a, over the hull h that building wrote for cs
 -- both numbers of a height are held exactly as doubles
@@ -257,8 +257,8 @@ pub record PlumbLine (cs : List ℤ) (old : List ℕ) (h : List Face) (x y : ℤ
   pub lower : Fraction
   pub upper : Fraction
   pub tightest : Spans (touch cs) h x y lower upper
-  pub exact-lower : ExactHeight lower
-  pub exact-upper : ExactHeight upper
+  pub exact_lower : ExactHeight lower
+  pub exact_upper : ExactHeight upper
   -- it misses, it touches, or it enters at the upper and leaves at the lower one: decided on the fractions, however they round
   pub misses : (a ≡ Misses) ↔ ((NoneRefuses (touch cs) h x y → ⊥) ⊎ Below upper lower)
   pub touches : (a ≡ Grazes (rounded upper)) ↔ (NoneRefuses (touch cs) h x y × Equal lower upper)
@@ -270,57 +270,57 @@ pub record PlumbLine (cs : List ℤ) (old : List ℕ) (h : List Face) (x y : ℤ
 -- ==== all of it
 pub record Demands : Type 0 where
   -- 1. bad input gets the number that the paper gives it, the first that applies
-  pub check-refused : (cs : List ℤ) (r : Refusal) → (checked cs ≡ CheckRefused r) ↔ listOrder cs never r
-  pub build-refused : (cs : List ℤ) (old : List ℕ) (r : Refusal) → (built cs old ≡ Refused r) ↔ buildOrder cs old r
-  pub place-refused : (cs : List ℤ) (t : List ℕ) (q : Point) (r : Refusal) → (placed cs t q ≡ PlaceRefused r) ↔ placeOrder cs t q r
-  pub plane-refused : (cs : List ℤ) (a b c : ℕ) (r : Refusal) → (planed cs a b c ≡ PlaneRefused r) ↔ planeOrder cs a b c r
-  pub reading-refused : (cs : List ℤ) (a b c : ℕ) (q : Point) (r : Refusal) → (planeReading cs a b c q ≡ ReadingRefused r) ↔ readingOrder cs a b c q r
-  pub plumb-refused : (cs : List ℤ) (x y : ℤ) (r : Refusal) → (plumbed cs x y ≡ PlumbRefused r) ↔ plumbOrder cs x y r
-  pub read-refused : (b : List ℕ) (old : List ℤ) (r : Refusal) → (read b old ≡ ReadRefused r) ↔ readOrder b old r
-  pub write-refused : (cs : List ℤ) (old : List ℕ) (r : Refusal) → (written cs old ≡ WriteRefused r) ↔ writeOrder cs old r
-  pub copy-refused : (b old : List ℕ) (r : Refusal) → (copied b old ≡ WriteRefused r) ↔ copyOrder b old r
+  pub check_refused : (cs : List ℤ) (r : Refusal) → (checked cs ≡ CheckRefused r) ↔ list_order cs never r
+  pub build_refused : (cs : List ℤ) (old : List ℕ) (r : Refusal) → (built cs old ≡ Refused r) ↔ build_order cs old r
+  pub place_refused : (cs : List ℤ) (t : List ℕ) (q : Point) (r : Refusal) → (placed cs t q ≡ PlaceRefused r) ↔ place_order cs t q r
+  pub plane_refused : (cs : List ℤ) (a b c : ℕ) (r : Refusal) → (planed cs a b c ≡ PlaneRefused r) ↔ plane_order cs a b c r
+  pub reading_refused : (cs : List ℤ) (a b c : ℕ) (q : Point) (r : Refusal) → (plane_reading cs a b c q ≡ ReadingRefused r) ↔ reading_order cs a b c q r
+  pub plumb_refused : (cs : List ℤ) (x y : ℤ) (r : Refusal) → (plumbed cs x y ≡ PlumbRefused r) ↔ plumb_order cs x y r
+  pub read_refused : (b : List ℕ) (old : List ℤ) (r : Refusal) → (read b old ≡ ReadRefused r) ↔ read_order b old r
+  pub write_refused : (cs : List ℤ) (old : List ℕ) (r : Refusal) → (written cs old ≡ WriteRefused r) ↔ write_order cs old r
+  pub copy_refused : (b old : List ℕ) (r : Refusal) → (copied b old ≡ WriteRefused r) ↔ copy_order b old r
   -- a list that passes 1 to 3 has no refusal, and its touches are counted
-  pub check-passed : (cs : List ℤ) → Sound cs → (checkedRefusal (checked cs) ≡ noRefusal) × (checkedCount (checked cs) ≡ touchCount cs)
+  pub check_passed : (cs : List ℤ) → Sound cs → (checked_refusal (checked cs) ≡ no_refusal) × (checked_count (checked cs) ≡ touch_count cs)
   -- lent tables stay untouched on refusal
-  pub build-untouched : (cs : List ℤ) (old : List ℕ) (r : Refusal) → built cs old ≡ Refused r → afterBuild cs old ≡ old
-  pub read-untouched : (b : List ℕ) (old : List ℤ) (r : Refusal) → read b old ≡ ReadRefused r → afterRead b old ≡ old
-  pub write-untouched : (cs : List ℤ) (old : List ℕ) (r : Refusal) → written cs old ≡ WriteRefused r → afterWrite cs old ≡ old
-  pub copy-untouched : (b old : List ℕ) (r : Refusal) → copied b old ≡ WriteRefused r → afterCopy b old ≡ old
+  pub build_untouched : (cs : List ℤ) (old : List ℕ) (r : Refusal) → built cs old ≡ Refused r → after_build cs old ≡ old
+  pub read_untouched : (b : List ℕ) (old : List ℤ) (r : Refusal) → read b old ≡ ReadRefused r → after_read b old ≡ old
+  pub write_untouched : (cs : List ℤ) (old : List ℕ) (r : Refusal) → written cs old ≡ WriteRefused r → after_write cs old ≡ old
+  pub copy_untouched : (b old : List ℕ) (r : Refusal) → copied b old ≡ WriteRefused r → after_copy b old ≡ old
   -- 2. the triangle list is the textbook's, closed, with every touch on or behind every face
   pub hull : (cs : List ℤ) (old : List ℕ) (n : ℕ) (v : ℤ) → built cs old ≡ Hull n v → IsHull cs old n v
   -- a lent table with room for 2n − 4 faces is never refused 5, n being the touch count, nor is one with room for 124
-  pub room-enough : (cs : List ℤ) (old : List ℕ) → enough (touchCount cs) ≤ room old → built cs old ≡ Refused (because faceTableTooSmall) → ⊥
-  pub room-always : (cs : List ℤ) (old : List ℕ) → enough mostTouches ≤ room old → built cs old ≡ Refused (because faceTableTooSmall) → ⊥
+  pub room_enough : (cs : List ℤ) (old : List ℕ) → enough (touch_count cs) ≤ room old → built cs old ≡ Refused (because face_table_too_small) → ⊥
+  pub room_always : (cs : List ℤ) (old : List ℕ) → enough most_touches ≤ room old → built cs old ≡ Refused (because face_table_too_small) → ⊥
   -- flat exactly if every four touches have volume zero, of a list that passes 1 to 3
-  pub flat : (cs : List ℤ) (old : List ℕ) → (built cs old ≡ Refused (because allTouchesOnOnePlane)) ↔ (Sound cs × AllFlat cs)
+  pub flat : (cs : List ℤ) (old : List ℕ) → (built cs old ≡ Refused (because all_touches_on_one_plane)) ↔ (Sound cs × AllFlat cs)
   -- a list written and read back is the same list, where the list it is read into has room
   pub written_read : (cs : List ℤ) (buffer : List ℕ) (old : List ℤ) (n : ℕ) → written cs buffer ≡ Bytes n → length cs ≤ length old
-      → let b = take n (afterWrite cs buffer) in (read b old ≡ Touches (touchCount cs)) × (take (length cs) (afterRead b old) ≡ cs)
+      → let b = take n (after_write cs buffer) in (read b old ≡ Touches (touch_count cs)) × (take (length cs) (after_read b old) ≡ cs)
   -- a record read and written back is the same bytes, where the buffer it is written into has room; a lent record has only bytes
-  pub read-written : (b : List ℕ) (list : List ℤ) (old : List ℕ) (m : ℕ) → AreBytes b → read b list ≡ Touches m → length b ≤ length old
-      → let cs = take (m * 3) (afterRead b list) in (written cs old ≡ Bytes (length b)) × (take (length b) (afterWrite cs old) ≡ b)
+  pub read_written : (b : List ℕ) (list : List ℤ) (old : List ℕ) (m : ℕ) → AreBytes b → read b list ≡ Touches m → length b ≤ length old
+      → let cs = take (m * 3) (after_read b list) in (written cs old ≡ Bytes (length b)) × (take (length b) (after_write cs old) ≡ b)
   -- 3. a list was accepted, and so was the same list with more touches at its end
   pub grows : (L M : List ℤ) (old new : List ℕ) (n m : ℕ) (v w : ℤ) → built L old ≡ Hull n v → built (L ++ M) new ≡ Hull m w → Grows L M old new n m v w
   -- never flat again
-  pub never-flat : (L M : List ℤ) (old new : List ℕ) (n : ℕ) (v : ℤ) → built L old ≡ Hull n v → built (L ++ M) new ≡ Refused (because allTouchesOnOnePlane) → ⊥
+  pub never_flat : (L M : List ℤ) (old new : List ℕ) (n : ℕ) (v : ℤ) → built L old ≡ Hull n v → built (L ++ M) new ≡ Refused (because all_touches_on_one_plane) → ⊥
   -- 01: V in doubles, the four numbers of a plane and a reading are exactly the whole number
   pub volumes : (a b c d : Point) → Near a → Near b → Near c → Near d → Exactly (double (Vol a b c d)) (Vol a b c d)
   pub planes : (cs : List ℤ) (a b c : ℕ) (p : Plane) → planed cs a b c ≡ Of p → ExactPlane (touch cs a) (touch cs b) (touch cs c) p
-  pub readings : (cs : List ℤ) (a b c : ℕ) (q : Point) (x : Float) → planeReading cs a b c q ≡ Reads x → Exactly x (neg_ℤ (Vol (touch cs a) (touch cs b) (touch cs c) q))
-  pub plus-zero : plusZero ≡ double (pos 0)
+  pub readings : (cs : List ℤ) (a b c : ℕ) (q : Point) (x : Float) → plane_reading cs a b c q ≡ Reads x → Exactly x (neg_ℤ (Vol (touch cs a) (touch cs b) (touch cs c) q))
+  pub plus_zero : plus_zero ≡ double (pos 0)
   -- 02 A5 and A7: what placing says, where it does not refuse
   pub placings : (cs : List ℤ) (t : List ℕ) (q : Point) → ((r : Refusal) → placed cs t q ≡ PlaceRefused r → ⊥) → IsPlaced cs t q (placed cs t q)
   -- 02 A5: what is refused 17 was on by 01's three cases
-  pub astray-on : (cs : List ℤ) (t : List ℕ) (q : Point) → placed cs t q ≡ PlaceRefused (because placeInNoTriangle) → caseBefore (touch cs) (facesIn t) q ≡ onCase
+  pub astray_on : (cs : List ℤ) (t : List ℕ) (q : Point) → placed cs t q ≡ PlaceRefused (because place_in_no_triangle) → case_before (touch cs) (faces_in t) q ≡ on_case
   -- against what building wrote no place in range is refused
-  pub never-astray : (cs : List ℤ) (old : List ℕ) (n : ℕ) (v : ℤ) → built cs old ≡ Hull n v → (q : Point) → Near q → (r : Refusal) → place cs old q ≡ PlaceRefused r → ⊥
+  pub never_astray : (cs : List ℤ) (old : List ℕ) (n : ℕ) (v : ℤ) → built cs old ≡ Hull n v → (q : Point) → Near q → (r : Refusal) → place cs old q ≡ PlaceRefused r → ⊥
   -- a place on it is inside the triangle that placing names and in no other, border included, or on the border of that triangle
   pub inside_one : (cs : List ℤ) (old : List ℕ) (n : ℕ) (v : ℤ) → built cs old ≡ Hull n v → (q : Point) (f : FaceNo) → place cs old q ≡ On f
       → InsideOneOrOnBorder (touch cs) (triangles cs old) (get_or (triangles cs old) f.0 []) q
   -- 02 A12: two lists over one set of positions, in any order and with any repeats: each place in range is inside, on or outside alike
   pub order : (L M : List ℤ) (old new : List ℕ) (n m : ℕ) (v w : ℤ) → SameTouches L M → built L old ≡ Hull n v → built M new ≡ Hull m w
-      → (q : Point) → Near q → caseAnswered (place L old q) ≡ caseAnswered (place M new q)
+      → (q : Point) → Near q → case_answered (place L old q) ≡ case_answered (place M new q)
   -- and the one is flat exactly if the other is, of lists that pass 1 to 3
-  pub order-flat : (L M : List ℤ) (old new : List ℕ) → SameTouches L M → Sound L → Sound M → (built L old ≡ Refused (because allTouchesOnOnePlane)) ↔ (built M new ≡ Refused (because allTouchesOnOnePlane))
+  pub order_flat : (L M : List ℤ) (old new : List ℕ) → SameTouches L M → Sound L → Sound M → (built L old ≡ Refused (because all_touches_on_one_plane)) ↔ (built M new ≡ Refused (because all_touches_on_one_plane))
   -- 02 A3: what a plumb line says, of a list that building accepts, at x and y in range
-  pub plumb-line : (cs : List ℤ) (old : List ℕ) (n : ℕ) (v x y : ℤ) → built cs old ≡ Hull n v → InRange x → InRange y → PlumbLine cs old (triangles cs old) x y (plumbed cs x y)
+  pub plumb_line : (cs : List ℤ) (old : List ℕ) (n : ℕ) (v x y : ℤ) → built cs old ≡ Hull n v → InRange x → InRange y → PlumbLine cs old (triangles cs old) x y (plumbed cs x y)

@@ -14,77 +14,77 @@ use lib.Seq.{get_or-take}
 use Rattle.laws.specs.Lists.{every}
 use Rattle.laws.proofs.Tests.{and_both}
 use Rattle.touches.specs.declared.Refusal.{Refusal}
-use Rattle.touches.specs.Limits.{mostFaces}
-use Rattle.touches.specs.Touches.{touch, touchCount, Sound}
-use Rattle.touches.specs.Refusals.{faceTableTooSmall, because}
+use Rattle.touches.specs.Limits.{most_faces}
+use Rattle.touches.specs.Touches.{touch, touch_count, Sound}
+use Rattle.touches.specs.Refusals.{face_table_too_small, because}
 use Rattle.touches.specs.Check.{pick}
 use Rattle.rules.specs.Faces.{Face, Places}
 use Rattle.rules.specs.Building.{volume}
 use Rattle.rules.specs.Start.{Start as Four}
-use Rattle.rules.proofs.AfterLaws.{hull-built, hull-some}
-use Rattle.rules.proofs.Theorems.{start-order, hull-surface, accepted-few}
+use Rattle.rules.proofs.AfterLaws.{hull_built, hull_some}
+use Rattle.rules.proofs.Theorems.{start_order, hull_surface, accepted_few}
 use Rattle.cover.specs.Room.{enough}
-use Rattle.cover.proofs.Theorems.{hull-few}
+use Rattle.cover.proofs.Theorems.{hull_few}
 use Rattle.border.specs.Marks.{MarkTable, Fresh}
-use Rattle.points.specs.Whole.{planeOn}
-use Rattle.hull.specs.Build.{hullOf, builtFrom}
+use Rattle.points.specs.Whole.{plane_on}
+use Rattle.hull.specs.Build.{hull_of, built_from}
 use Rattle.hull.specs.Whole.{Planed}
 use Rattle.hull.specs.Inner.{Ready, Begun, Taken, Builds}
 use Rattle.hull.specs.declared.build.Built.{Built}
 use Rattle.hull.specs.declared.build.Built.TheVariants.{Hull, Refused}
 
 -- ---- the hull of a list that passed refusals 1 to 3
-module _ {cs : List ℤ} (d : Sound cs) {h : List Face} (e : hullOf cs ≡ some h) where
-  pub hull-ready : Ready cs h 0
-  hull-ready = record {
+module _ {cs : List ℤ} (d : Sound cs) {h : List Face} (e : hull_of cs ≡ some h) where
+  pub hull_ready : Ready cs h 0
+  hull_ready = record {
     sound = d;
-    faces = (hull-surface (touch cs) (touchCount cs) e).corners;
-    touch = omega (arith, start-order (touch cs) (touchCount cs) (hull-built (touch cs) (touchCount cs) e).1);
+    faces = (hull_surface (touch cs) (touch_count cs) e).corners;
+    touch = omega (arith, start_order (touch cs) (touch_count cs) (hull_built (touch cs) (touch_count cs) e).1);
   }
 
-  pub hull-most : length h ≤ mostFaces
-  hull-most = omega (arith, hull-few (touch cs) (touchCount cs) e, accepted-few d)
+  pub hull_most : length h ≤ most_faces
+  hull_most = omega (arith, hull_few (touch cs) (touch_count cs) e, accepted_few d)
 
 -- ---- the answer: refusal 5 or the hull
 module _ (p : Places) (n : ℕ) (h : List Face) where
-  by-room : {b : Bool} → leb (length h) n ≡ b → pick b (Hull (length h) (volume p h)) (Refused (because faceTableTooSmall)) ≡ builtFrom p n (some h)
-  by-room e = ap (λ (b : Bool). pick b (Hull (length h) (volume p h)) (Refused (because faceTableTooSmall))) (sym e)
+  by_room : {b : Bool} → leb (length h) n ≡ b → pick b (Hull (length h) (volume p h)) (Refused (because face_table_too_small)) ≡ built_from p n (some h)
+  by_room e = ap (λ (b : Bool). pick b (Hull (length h) (volume p h)) (Refused (because face_table_too_small))) (sym e)
 
-  pub no_room : n < length h → {r : Refusal} → r ≡ because faceTableTooSmall → Refused r ≡ builtFrom p n (some h)
-  no_room l e = ap Refused e ∙ by-room (lt-leb (length h) n l)
+  pub no_room : n < length h → {r : Refusal} → r ≡ because face_table_too_small → Refused r ≡ built_from p n (some h)
+  no_room l e = ap Refused e ∙ by_room (lt-leb (length h) n l)
 
-  pub given : length h ≤ n → {v : ℤ} → v ≡ volume p h → Hull (length h) v ≡ builtFrom p n (some h)
-  given l e = ap (Hull (length h)) e ∙ by-room (le-leb (length h) n l)
+  pub given : length h ≤ n → {v : ℤ} → v ≡ volume p h → Hull (length h) v ≡ built_from p n (some h)
+  given l e = ap (Hull (length h)) e ∙ by_room (le-leb (length h) n l)
 
 -- with room for 2n − 4 faces the hull is never refused
-pub room-enough : (cs : List ℤ) {h : List Face} → hullOf cs ≡ some h → {n : ℕ} → enough (touchCount cs) ≤ n → Hull (length h) (volume (touch cs) h) ≡ builtFrom (touch cs) n (some h)
-room-enough cs {h} e {n} b = given (touch cs) n h (le_trans (hull-few (touch cs) (touchCount cs) e) b) refl
+pub room_enough : (cs : List ℤ) {h : List Face} → hull_of cs ≡ some h → {n : ℕ} → enough (touch_count cs) ≤ n → Hull (length h) (volume (touch cs) h) ≡ built_from (touch cs) n (some h)
+room_enough cs {h} e {n} b = given (touch cs) n h (le_trans (hull_few (touch cs) (touch_count cs) e) b) refl
 
 -- ---- the faces at the front of a table after the last touch
-module _ {cs : List ℤ} {s : Four} (b : Begun cs s) {m : ℕ} {table : List Face} {planes : List (List ℤ)} (t : Taken cs s (touchCount cs) m table planes) where
-  pub front-hull : hullOf cs ≡ some (take m table)
-  front-hull = hull-some (touch cs) (touchCount cs) b.begins ∙ ap some (sym t.faces)
+module _ {cs : List ℤ} {s : Four} (b : Begun cs s) {m : ℕ} {table : List Face} {planes : List (List ℤ)} (t : Taken cs s (touch_count cs) m table planes) where
+  pub front_hull : hull_of cs ≡ some (take m table)
+  front_hull = hull_some (touch cs) (touch_count cs) b.begins ∙ ap some (sym t.faces)
 
-  pub front-count : m ≡ length (take m table)
-  front-count = t.count ∙ ap length (sym t.faces)
+  pub front_count : m ≡ length (take m table)
+  front_count = t.count ∙ ap length (sym t.faces)
 
   -- what writing them asks
-  pub front-asked : m ≤ length planes → Ready cs (take m table) 0 × Planed cs (length (take m table)) (take m table) planes × (length (take m table) ≤ length planes) × (length (take m table) ≤ mostFaces)
-  front-asked h = (hull-ready b.sound front-hull, planed, omega (arith, front-count), hull-most b.sound front-hull)
+  pub front_asked : m ≤ length planes → Ready cs (take m table) 0 × Planed cs (length (take m table)) (take m table) planes × (length (take m table) ≤ length planes) × (length (take m table) ≤ most_faces)
+  front_asked h = (hull_ready b.sound front_hull, planed, omega (arith, front_count), hull_most b.sound front_hull)
     where
       planed : Planed cs (length (take m table)) (take m table) planes
-      planed = record { each = λ j l. let i : j < m = omega (arith, front-count) in record { is = (t.planed.each j i).is ∙ ap (planeOn (touch cs)) (sym (get_or-take m table j [] i)) } }
+      planed = record { each = λ j l. let i : j < m = omega (arith, front_count) in record { is = (t.planed.each j i).is ∙ ap (plane_on (touch cs)) (sym (get_or-take m table j [] i)) } }
 
   -- and what it gives
-  pub front-builds : {old after : List ℕ} {r : Built} → Builds cs (some (take m table)) old r after → Builds cs (hullOf cs) old r after
-  front-builds w = rw front-hull w
+  pub front_builds : {old after : List ℕ} {r : Built} → Builds cs (some (take m table)) old r after → Builds cs (hull_of cs) old r after
+  front_builds w = rw front_hull w
 
 -- ---- the work tables before the first touch: marks for n touches, all 1
-pub marks-for : {cs : List ℤ} {n : ℕ} {marks : List ℕ} → Sound cs → touchCount cs ≤ n → n * n ≤ length marks → MarkTable (touchCount cs) marks
-marks-for d h r = record { few = accepted-few d; room = le_trans (mul-le-mul h h) r }
+pub marks_for : {cs : List ℤ} {n : ℕ} {marks : List ℕ} → Sound cs → touch_count cs ≤ n → n * n ≤ length marks → MarkTable (touch_count cs) marks
+marks_for d h r = record { few = accepted_few d; room = le_trans (mul-le-mul h h) r }
 
-pub fresh-ones : (marks : List ℕ) → T (every (λ x. leb x 1) marks) → Fresh 0 marks
-fresh-ones marks h = record { old = go marks h }
+pub fresh_ones : (marks : List ℕ) → T (every (λ x. leb x 1) marks) → Fresh 0 marks
+fresh_ones marks h = record { old = go marks h }
   where
     go : (l : List ℕ) → T (every (λ x. leb x 1) l) → (j : ℕ) → get_or l j 0 ≤ 0 + 1
     go [] h j = omega arith

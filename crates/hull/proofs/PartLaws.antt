@@ -9,59 +9,59 @@ use lib.ListN.{length, take, get_or, length-append}
 use lib.Signed.{lt_z}
 use lib.Seq.{get_or-take, length-take-le}
 use Rattle.laws.specs.Lists.{only_if, keep, lay, Laid}
-use Rattle.laws.proofs.Members.{getD-in}
-use Rattle.laws.proofs.Tables.{lay-none, laid_none, laid-prefix, laid-past, laid-take, laid-keep, keep-more, keep-first, keep-no-first, length-only, length-keep-take}
+use Rattle.laws.proofs.Members.{get_or_in}
+use Rattle.laws.proofs.Tables.{lay_none, laid_none, laid_prefix, laid_past, laid_take, laid_keep, keep_more, keep_first, keep_no_first, length_only, length_keep_take}
 use Rattle.touches.specs.declared.Point.{Point}
 use Rattle.touches.specs.Touches.{touch}
 use Rattle.rules.specs.Faces.{Face, visible}
 use Rattle.rules.specs.Building.{seen, unseen}
 use Rattle.rules.specs.Demands.{FaceOf}
 use Rattle.points.specs.Whole.{PlaneNear}
-use Rattle.hull.specs.Inner.{inFront, Ready, PartOf}
-use Rattle.hull.specs.Whole.{readAt, FirstFront, PlanedAt, Planed}
-use Rattle.hull.proofs.WholeLaws.{read_is, planed-near, put-apart, put-planed}
+use Rattle.hull.specs.Inner.{in_front, Ready, PartOf}
+use Rattle.hull.specs.Whole.{read_at, FirstFront, PlanedAt, Planed}
+use Rattle.hull.proofs.WholeLaws.{read_is, planed_near, put_apart, put_planed}
 
 abbrev behind : List ℤ → Point → Face → Bool
-behind cs q f = not (inFront cs q f)
+behind cs q f = not (in_front cs q f)
 
 -- what is read from the plane of a face of the table
 module _ {cs : List ℤ} {faces : List Face} {planes : List (List ℤ)} {j : ℕ} (e : PlanedAt cs faces planes j) where
-  pub front_read : (q : Point) → lt_z (readAt (get_or planes j []) q) (pos 0) ≡ inFront cs q (get_or faces j [])
-  front_read q = ap (λ (w : List ℤ). lt_z (readAt w q) (pos 0)) e.is ∙ ap (λ (z : ℤ). lt_z z (pos 0)) (read_is (touch cs) (get_or faces j []) q)
+  pub front_read : (q : Point) → lt_z (read_at (get_or planes j []) q) (pos 0) ≡ in_front cs q (get_or faces j [])
+  front_read q = ap (λ (w : List ℤ). lt_z (read_at w q) (pos 0)) e.is ∙ ap (λ (z : ℤ). lt_z z (pos 0)) (read_is (touch cs) (get_or faces j []) q)
 
-face-of : {cs : List ℤ} (faces : List Face) (n : ℕ) {k : ℕ} → Ready cs (take n faces) k → n ≤ length faces → (j : ℕ) → j < n → FaceOf cs (get_or faces j [])
-face-of faces n r l j h = rw (← get_or-take n faces j [] h) (r.faces (get_or (take n faces) j []) (getD-in (take n faces) j [] (omega (arith, length-take-le n faces l))))
+face_of : {cs : List ℤ} (faces : List Face) (n : ℕ) {k : ℕ} → Ready cs (take n faces) k → n ≤ length faces → (j : ℕ) → j < n → FaceOf cs (get_or faces j [])
+face_of faces n r l j h = rw (← get_or-take n faces j [] h) (r.faces (get_or (take n faces) j []) (get_or_in (take n faces) j [] (omega (arith, length-take-le n faces l))))
 
-pub planes-near : {cs : List ℤ} {faces : List Face} {planes : List (List ℤ)} {n k : ℕ} → Planed cs n faces planes → Ready cs (take n faces) k → n ≤ length faces → (j : ℕ) → j < n → PlaneNear (get_or planes j [])
-planes-near {faces = faces} {n = n} p r l j h = planed-near (p.each j h) r.sound (face-of faces n r l j h)
+pub planes_near : {cs : List ℤ} {faces : List Face} {planes : List (List ℤ)} {n k : ℕ} → Planed cs n faces planes → Ready cs (take n faces) k → n ≤ length faces → (j : ℕ) → j < n → PlaneNear (get_or planes j [])
+planes_near {faces = faces} {n = n} p r l j h = planed_near (p.each j h) r.sound (face_of faces n r l j h)
 
 -- after the first i of the faces from: m of them are in the table kept, with their planes, and s in the table front
 pub record Parting (cs : List ℤ) (q : Point) (n : ℕ) (from kept front : List Face) (planes : List (List ℤ)) (m s i : ℕ) : Type 0 where
   pub within : i ≤ n
-  pub kept-long : length kept ≡ length from
+  pub kept_long : length kept ≡ length from
   pub front_long : n ≤ length front
-  pub planes-long : n ≤ length planes
+  pub planes_long : n ≤ length planes
   pub stay : Laid 0 (keep (behind cs q) (take i from)) from m kept
-  pub gone : take s front ≡ keep (inFront cs q) (take i from)
-  pub count : s ≡ length (keep (inFront cs q) (take i from))
+  pub gone : take s front ≡ keep (in_front cs q) (take i from)
+  pub count : s ≡ length (keep (in_front cs q) (take i from))
   pub planed : Planed cs m kept planes
   pub rest : (j : ℕ) → i ≤ j → j < n → PlanedAt cs kept planes j
 
 -- the faces before the first that q is in front of are in their places
 module _ {cs : List ℤ} {q : Point} {n : ℕ} {from : List Face} {planes : List (List ℤ)} {i : ℕ} (a : n ≤ length from) (b : n ≤ length planes) (p : Planed cs n from planes) (h : FirstFront planes n q i)
     (front : List Face) (l : n ≤ length front) where
-  before : (j : ℕ) → j < i → inFront cs q (get_or from j []) ≡ false
+  before : (j : ℕ) → j < i → in_front cs q (get_or from j []) ≡ false
   before j c = sym (front_read (p.each j (omega (arith, h.within))) q) ∙ h.before j c
 
-  pub parting-none : Parting cs q n from from front planes i 0 i
-  parting-none =
-      let e : keep (inFront cs q) (take i from) ≡ [] = keep-no-first (inFront cs q) from [] i (omega (arith, h.within)) before in
+  pub parting_none : Parting cs q n from from front planes i 0 i
+  parting_none =
+      let e : keep (in_front cs q) (take i from) ≡ [] = keep_no_first (in_front cs q) from [] i (omega (arith, h.within)) before in
       record {
         within = h.within;
-        kept-long = refl;
+        kept_long = refl;
         front_long = l;
-        planes-long = b;
-        stay = rw (keep-first (behind cs q) from [] i (omega (arith, h.within)) (λ j c. ap not (before j c))) (laid-prefix i from (omega (arith, h.within)));
+        planes_long = b;
+        stay = rw (keep_first (behind cs q) from [] i (omega (arith, h.within)) (λ j c. ap not (before j c))) (laid_prefix i from (omega (arith, h.within)));
         gone = sym e;
         count = ap length (sym e);
         planed = record { each = λ j c. p.each j (omega (arith, h.within)) };
@@ -69,64 +69,64 @@ module _ {cs : List ℤ} {q : Point} {n : ℕ} {from : List Face} {planes : List
       }
 
 module _ {cs : List ℤ} {q : Point} {n : ℕ} {from kept front : List Face} {planes : List (List ℤ)} {m s i : ℕ} (g : Parting cs q n from kept front planes m s i) where
-  kept-few : m ≤ i
-  kept-few = omega (arith, g.stay.next, length-keep-take (behind cs q) from i)
+  kept_few : m ≤ i
+  kept_few = omega (arith, g.stay.next, length_keep_take (behind cs q) from i)
 
   -- the next face is still in its place
-  next-face : get_or kept i [] ≡ get_or from i []
-  next-face = laid-past g.stay i [] kept-few
+  next_face : get_or kept i [] ≡ get_or from i []
+  next_face = laid_past g.stay i [] kept_few
 
   module _ (h : i < n) (e : n ≤ length from) where
-    pub parting-near : {k : ℕ} → Ready cs (take n from) k → PlaneNear (get_or planes i [])
-    parting-near r = planed-near (g.rest i (omega arith) h) r.sound (rw next-face (face-of from n r e i h))
+    pub parting_near : {k : ℕ} → Ready cs (take n from) k → PlaneNear (get_or planes i [])
+    parting_near r = planed_near (g.rest i (omega arith) h) r.sound (rw next_face (face_of from n r e i h))
 
-    pub kept-place : m < length kept
-    kept-place = omega (arith, kept-few, g.kept-long)
+    pub kept_place : m < length kept
+    kept_place = omega (arith, kept_few, g.kept_long)
 
-    pub planes-place : m < length planes
-    planes-place = omega (arith, kept-few, g.planes-long)
+    pub planes_place : m < length planes
+    planes_place = omega (arith, kept_few, g.planes_long)
 
-    pub kept-room : (x : Bool) (f : Face) → m + length (only_if x f) ≤ length kept
-    kept-room x f = omega (arith, kept-place, length-only x f)
+    pub kept_room : (x : Bool) (f : Face) → m + length (only_if x f) ≤ length kept
+    kept_room x f = omega (arith, kept_place, length_only x f)
 
-    front-few : s ≤ i
-    front-few = omega (arith, g.count, length-keep-take (inFront cs q) from i)
+    front_few : s ≤ i
+    front_few = omega (arith, g.count, length_keep_take (in_front cs q) from i)
 
-    pub front-room : (x : Bool) (f : Face) → s + length (only_if x f) ≤ length front
-    front-room x f = omega (arith, front-few, length-only x f, g.front_long)
+    pub front_room : (x : Bool) (f : Face) → s + length (only_if x f) ≤ length front
+    front_room x f = omega (arith, front_few, length_only x f, g.front_long)
 
-    pub parting-more : {kept' front' : List Face} {planes' : List (List ℤ)} {m' s' : ℕ} {x : Bool} → x ≡ lt_z (readAt (get_or planes i []) q) (pos 0)
+    pub parting_more : {kept' front' : List Face} {planes' : List (List ℤ)} {m' s' : ℕ} {x : Bool} → x ≡ lt_z (read_at (get_or planes i []) q) (pos 0)
         → planes' ≡ lay m (only_if (not x) (get_or planes i [])) planes → length planes' ≡ length planes
         → Laid m (only_if (not x) (get_or kept i [])) kept m' kept' → length kept' ≡ length kept
         → Laid s (only_if x (get_or kept i [])) front s' front' → length front' ≡ length front → Parting cs q n from kept' front' planes' m' s' (i + 1)
-    parting-more {kept'} {front'} {planes'} {m'} {s'} {x} t w d a c b z =
+    parting_more {kept'} {front'} {planes'} {m'} {s'} {x} t w d a c b z =
         let o : PlanedAt cs kept planes i = g.rest i (omega arith) h in
-        let v : x ≡ inFront cs q (get_or kept i []) = t ∙ front_read o q in
-        let u : x ≡ inFront cs q (get_or from i []) = v ∙ ap (inFront cs q) next-face in
-        let more : keep (inFront cs q) (take i from) ++ only_if x (get_or kept i []) ≡ keep (inFront cs q) (take (i + 1) from) =
-        ap₂ (λ (y : Bool) (f : Face). keep (inFront cs q) (take i from) ++ only_if y f) u next-face ∙ sym (keep-more (inFront cs q) from i [] (omega arith)) in
+        let v : x ≡ in_front cs q (get_or kept i []) = t ∙ front_read o q in
+        let u : x ≡ in_front cs q (get_or from i []) = v ∙ ap (in_front cs q) next_face in
+        let more : keep (in_front cs q) (take i from) ++ only_if x (get_or kept i []) ≡ keep (in_front cs q) (take (i + 1) from) =
+        ap₂ (λ (y : Bool) (f : Face). keep (in_front cs q) (take i from) ++ only_if y f) u next_face ∙ sym (keep_more (in_front cs q) from i [] (omega arith)) in
         record {
           within = omega arith;
-          kept-long = c ∙ g.kept-long;
+          kept_long = c ∙ g.kept_long;
           front_long = omega (arith, z, g.front_long);
-          planes-long = omega (arith, d, g.planes-long);
-          stay = laid-keep (behind cs q) from i [] (not x) (get_or kept i []) (omega arith) next-face (ap not v) g.stay a;
-          gone = laid-take b (omega (arith, front-few, g.front_long)) ∙ ap (λ (l : List Face). l ++ only_if x (get_or kept i [])) g.gone ∙ more;
-          count = b.next ∙ ap (λ (y : ℕ). y + length (only_if x (get_or kept i []))) g.count ∙ sym (length-append (keep (inFront cs q) (take i from)) (only_if x (get_or kept i []))) ∙ ap length more;
-          planed = rw (w, a.table, a.next) (put-planed (get_or kept i []) (get_or planes i []) kept-place planes-place o.is (not x) g.planed);
-          rest = λ j f y. rw (w, a.table) (put-apart (get_or kept i []) (get_or planes i []) kept-place planes-place (not x) (λ r. absurd (omega (arith, r, kept-few))) (g.rest j (omega arith) y));
+          planes_long = omega (arith, d, g.planes_long);
+          stay = laid_keep (behind cs q) from i [] (not x) (get_or kept i []) (omega arith) next_face (ap not v) g.stay a;
+          gone = laid_take b (omega (arith, front_few, g.front_long)) ∙ ap (λ (l : List Face). l ++ only_if x (get_or kept i [])) g.gone ∙ more;
+          count = b.next ∙ ap (λ (y : ℕ). y + length (only_if x (get_or kept i []))) g.count ∙ sym (length-append (keep (in_front cs q) (take i from)) (only_if x (get_or kept i []))) ∙ ap length more;
+          planed = rw (w, a.table, a.next) (put_planed (get_or kept i []) (get_or planes i []) kept_place planes_place o.is (not x) g.planed);
+          rest = λ j f y. rw (w, a.table) (put_apart (get_or kept i []) (get_or planes i []) kept_place planes_place (not x) (λ r. absurd (omega (arith, r, kept_few))) (g.rest j (omega arith) y));
         }
 
-  pub parting-all : {k : ℕ} → q ≡ touch cs k → n ≤ i → PartOf cs (take n from) k from m kept s front
+  pub parting_all : {k : ℕ} → q ≡ touch cs k → n ≤ i → PartOf cs (take n from) k from m kept s front
   unfolding seen unseen visible
-  parting-all {k} e h =
+  parting_all {k} e h =
       let l : n ≡ i = omega (arith, g.within) in
       rw l (record { stay = rw e at g.stay; gone = rw e at g.gone; count = rw e at g.count })
 
 -- the first of them goes to the front
 module _ {cs : List ℤ} {q : Point} {n : ℕ} {from : List Face} {planes : List (List ℤ)} {i : ℕ} (a : n ≤ length from) (b : n ≤ length planes) (p : Planed cs n from planes) (h : FirstFront planes n q i) where
-  pub parting-first : i < n → {front front' : List Face} {s : ℕ} → n ≤ length front → Laid 0 (only_if true (get_or from i [])) front s front' → length front' ≡ length front → Parting cs q n from from front' planes i s (i + 1)
-  parting-first l {front} c g z = parting-more (parting-none a b p h front c) l a (sym (h.here l)) (sym (lay-none i planes)) refl (laid_none i from) refl g z
+  pub parting_first : i < n → {front front' : List Face} {s : ℕ} → n ≤ length front → Laid 0 (only_if true (get_or from i [])) front s front' → length front' ≡ length front → Parting cs q n from from front' planes i s (i + 1)
+  parting_first l {front} c g z = parting_more (parting_none a b p h front c) l a (sym (h.here l)) (sym (lay_none i planes)) refl (laid_none i from) refl g z
 
-  pub parting-nothing : i ≡ n → {k : ℕ} → q ≡ touch cs k → (front : List Face) → n ≤ length front → PartOf cs (take n from) k from n from 0 front
-  parting-nothing e {k} t front c = subst (λ (j : ℕ). PartOf cs (take n from) k from j from 0 front) e (parting-all (parting-none a b p h front c) t (omega arith))
+  pub parting_nothing : i ≡ n → {k : ℕ} → q ≡ touch cs k → (front : List Face) → n ≤ length front → PartOf cs (take n from) k from n from 0 front
+  parting_nothing e {k} t front c = subst (λ (j : ℕ). PartOf cs (take n from) k from j from 0 front) e (parting_all (parting_none a b p h front c) t (omega arith))

@@ -11,51 +11,51 @@ use lib.Seq.{take-suc, take_all}
 use mir.Syntax.{w64}
 use mir.Val.{SFits, to_z, of_z}
 use Rattle.laws.specs.Numbers.{Within}
-use Rattle.laws.specs.Lists.{sumZ}
-use Rattle.laws.proofs.Sums.{sum-append}
+use Rattle.laws.specs.Lists.{sum_z}
+use Rattle.laws.proofs.Sums.{sum_append}
 use Rattle.laws.proofs.WithinLaws.{within_more}
-use Rattle.laws.proofs.Words.{Reads, r-add, fits, stored}
+use Rattle.laws.proofs.Words.{Reads, r_add, fits, stored}
 use Rattle.touches.specs.declared.Point.{Point}
-use Rattle.touches.specs.Limits.{mostFaces}
-use Rattle.volume.specs.Volume.{mostVolume}
-use Rattle.rules.specs.Faces.{Face, Places, faceVol}
+use Rattle.touches.specs.Limits.{most_faces}
+use Rattle.volume.specs.Volume.{most_volume}
+use Rattle.rules.specs.Faces.{Face, Places, face_vol}
 use Rattle.rules.specs.Building.{volume}
 use Rattle.points.specs.Sizes.{Number}
 use Rattle.points.proofs.NumberLaws.{back}
 
 abbrev so_far : Places → Point → List Face → ℕ → ℤ
-so_far p q l i = sumZ (λ f. faceVol p f q) (take i l)
+so_far p q l i = sum_z (λ f. face_vol p f q) (take i l)
 
 -- n is the bits of the sum over the first i faces
 pub record Summed (p : Places) (q : Point) (l : List Face) (i n : ℕ) : Type 0 where
-  pub reads : Reads (i * mostVolume) (to_z w64 n) (so_far p q l i)
+  pub reads : Reads (i * most_volume) (to_z w64 n) (so_far p q l i)
 
-pub summed-none : (p : Places) (q : Point) (l : List Face) → Summed p q l 0 0
-summed-none p q l = record { reads = record { is = refl; bound = record { within = omega arith } } }
+pub summed_none : (p : Places) (q : Point) (l : List Face) → Summed p q l 0 0
+summed_none p q l = record { reads = record { is = refl; bound = record { within = omega arith } } }
 
 module _ {p : Places} {q : Point} {l : List Face} {i n : ℕ} (g : Summed p q l i n) where
-  module _ {v : ℤ} (e : Number mostVolume (faceVol p (get_or l i []) q) v) (h : i < length l) (b : length l ≤ mostFaces) where
-    sum_more : so_far p q l i +ℤ faceVol p (get_or l i []) q ≡ so_far p q l (i + 1)
-    sum_more = sym (ap (so_far p q l) (add-one i) ∙ ap (sumZ (λ f. faceVol p f q)) (take-suc l i [] h)
-        ∙ sum-append (λ f. faceVol p f q) (take i l) (get_or l i [] ∷ []) ∙ ap (λ (z : ℤ). so_far p q l i +ℤ z) (+ℤ_idr (faceVol p (get_or l i []) q)))
+  module _ {v : ℤ} (e : Number most_volume (face_vol p (get_or l i []) q) v) (h : i < length l) (b : length l ≤ most_faces) where
+    sum_more : so_far p q l i +ℤ face_vol p (get_or l i []) q ≡ so_far p q l (i + 1)
+    sum_more = sym (ap (so_far p q l) (add-one i) ∙ ap (sum_z (λ f. face_vol p f q)) (take-suc l i [] h)
+        ∙ sum_append (λ f. face_vol p f q) (take i l) (get_or l i [] ∷ []) ∙ ap (λ (z : ℤ). so_far p q l i +ℤ z) (+ℤ_idr (face_vol p (get_or l i []) q)))
 
     -- the sum that the machine works out
-    next : Reads ((i + 1) * mostVolume) (to_z w64 n +ℤ to_z w64 (of_z w64 v)) (so_far p q l (i + 1))
+    next : Reads ((i + 1) * most_volume) (to_z w64 n +ℤ to_z w64 (of_z w64 v)) (so_far p q l (i + 1))
     next =
-        let s : i * mostVolume + mostVolume ≡ (i + 1) * mostVolume = omega arith in
-        let k : Reads mostVolume (to_z w64 (of_z w64 v)) (faceVol p (get_or l i []) q) = record { is = back tt e; bound = subst (Within mostVolume) e.is e.small } in
-        let r = r-add g.reads k in
-        record { is = r.is ∙ sum_more; bound = subst (λ (z : ℤ). Within ((i + 1) * mostVolume) z) sum_more (subst (λ (m : ℕ). Within m (so_far p q l i +ℤ faceVol p (get_or l i []) q)) s r.bound) }
+        let s : i * most_volume + most_volume ≡ (i + 1) * most_volume = omega arith in
+        let k : Reads most_volume (to_z w64 (of_z w64 v)) (face_vol p (get_or l i []) q) = record { is = back tt e; bound = subst (Within most_volume) e.is e.small } in
+        let r = r_add g.reads k in
+        record { is = r.is ∙ sum_more; bound = subst (λ (z : ℤ). Within ((i + 1) * most_volume) z) sum_more (subst (λ (m : ℕ). Within m (so_far p q l i +ℤ face_vol p (get_or l i []) q)) s r.bound) }
 
-    whole : Reads (mostFaces * mostVolume) (to_z w64 n +ℤ to_z w64 (of_z w64 v)) (so_far p q l (i + 1))
-    whole = record { is = next.is; bound = within_more (mul-le-mul_right {n = mostFaces} mostVolume (omega arith)) next.bound }
+    whole : Reads (most_faces * most_volume) (to_z w64 n +ℤ to_z w64 (of_z w64 v)) (so_far p q l (i + 1))
+    whole = record { is = next.is; bound = within_more (mul-le-mul_right {n = most_faces} most_volume (omega arith)) next.bound }
 
     pub sum_fits : SFits w64 (to_z w64 n +ℤ to_z w64 (of_z w64 v))
     sum_fits = fits w64 whole tt
 
-    pub summed-more : Summed p q l (i + 1) (of_z w64 (to_z w64 n +ℤ to_z w64 (of_z w64 v)))
-    summed-more = record { reads = record { is = (stored w64 whole tt).is; bound = next.bound } }
+    pub summed_more : Summed p q l (i + 1) (of_z w64 (to_z w64 n +ℤ to_z w64 (of_z w64 v)))
+    summed_more = record { reads = record { is = (stored w64 whole tt).is; bound = next.bound } }
 
-  pub summed-all : length l ≤ i → q ≡ p 0 → to_z w64 n ≡ volume p l
+  pub summed_all : length l ≤ i → q ≡ p 0 → to_z w64 n ≡ volume p l
   unfolding volume
-  summed-all h e = g.reads.is ∙ ap (sumZ (λ f. faceVol p f q)) (take_all i l h) ∙ ap (λ (o : Point). sumZ (λ f. faceVol p f o) l) e
+  summed_all h e = g.reads.is ∙ ap (sum_z (λ f. face_vol p f q)) (take_all i l h) ∙ ap (λ (o : Point). sum_z (λ f. face_vol p f o) l) e

@@ -12,42 +12,42 @@ use lib.Seq.{get_or-set_same, get_or-set_other}
 use Rattle.laws.specs.Numbers.{Within}
 use Rattle.laws.specs.Lists.{only_if, lay}
 use Rattle.laws.proofs.Tests.{same_or}
-use Rattle.laws.proofs.Tables.{lay-none, lay-one, length-only}
+use Rattle.laws.proofs.Tables.{lay_none, lay_one, length_only}
 use Rattle.touches.specs.declared.Point.{Point}
 use Rattle.touches.specs.Touches.{touch, Sound, Near}
-use Rattle.touches.proofs.SoundLaws.{touch-near}
-use Rattle.volume.specs.Volume.{mostVolume}
-use Rattle.volume.proofs.VolumeLaws.{vol-within}
-use Rattle.volume.proofs.PlaneLaws.{plane-vol}
-use Rattle.rules.specs.Faces.{Face, Places, corner, faceVol}
+use Rattle.touches.proofs.SoundLaws.{touch_near}
+use Rattle.volume.specs.Volume.{most_volume}
+use Rattle.volume.proofs.VolumeLaws.{vol_within}
+use Rattle.volume.proofs.PlaneLaws.{plane_vol}
+use Rattle.rules.specs.Faces.{Face, Places, corner, face_vol}
 use Rattle.rules.specs.Demands.{FaceOf}
 use Rattle.points.specs.Sizes.{Number}
-use Rattle.points.specs.Whole.{planeOn, PlaneNear}
-use Rattle.points.proofs.PlaneLaws.{plane-near}
-use Rattle.hull.specs.Whole.{readAt, FirstFront, PlanedAt, Planed}
+use Rattle.points.specs.Whole.{plane_on, PlaneNear}
+use Rattle.points.proofs.PlaneLaws.{plane_near}
+use Rattle.hull.specs.Whole.{read_at, FirstFront, PlanedAt, Planed}
 
-pub read_is : (p : Places) (f : Face) (q : Point) → readAt (planeOn p f) q ≡ faceVol p f q
-unfolding faceVol
-read_is p f q = sym (plane-vol (p (corner f 0)) (p (corner f 1)) (p (corner f 2)) q)
+pub read_is : (p : Places) (f : Face) (q : Point) → read_at (plane_on p f) q ≡ face_vol p f q
+unfolding face_vol
+read_is p f q = sym (plane_vol (p (corner f 0)) (p (corner f 1)) (p (corner f 2)) q)
 
 -- of a plane of a table
 module _ {cs : List ℤ} {faces : List Face} {planes : List (List ℤ)} {j : ℕ} (e : PlanedAt cs faces planes j) (s : Sound cs) (o : FaceOf cs (get_or faces j [])) where
-  pub planed-near : PlaneNear (get_or planes j [])
-  planed-near = rw e.is (plane-near {f = get_or faces j []} s o)
+  pub planed_near : PlaneNear (get_or planes j [])
+  planed_near = rw e.is (plane_near {f = get_or faces j []} s o)
 
-  pub planed-number : {q : Point} {r : ℤ} → Near q → Number (2 * mostVolume) (readAt (get_or planes j []) q) r → Number mostVolume (faceVol (touch cs) (get_or faces j []) q) r
-  unfolding faceVol
-  planed-number {q} {r} h n =
+  pub planed_number : {q : Point} {r : ℤ} → Near q → Number (2 * most_volume) (read_at (get_or planes j []) q) r → Number most_volume (face_vol (touch cs) (get_or faces j []) q) r
+  unfolding face_vol
+  planed_number {q} {r} h n =
       let f = get_or faces j [] in
-      let v : r ≡ faceVol (touch cs) f q = n.is ∙ ap (λ (w : List ℤ). readAt w q) e.is ∙ read_is (touch cs) f q in
-      record { is = v; small = subst (Within mostVolume) (sym v) (vol-within (touch-near s (corner f 0) o.a) (touch-near s (corner f 1) o.b) (touch-near s (corner f 2) o.c) h) }
+      let v : r ≡ face_vol (touch cs) f q = n.is ∙ ap (λ (w : List ℤ). read_at w q) e.is ∙ read_is (touch cs) f q in
+      record { is = v; small = subst (Within most_volume) (sym v) (vol_within (touch_near s (corner f 0) o.a) (touch_near s (corner f 1) o.b) (touch_near s (corner f 2) o.c) h) }
 
 -- ---- a plane stored at place i
-pub planed-none : (cs : List ℤ) (faces : List Face) (planes : List (List ℤ)) → Planed cs 0 faces planes
-planed-none cs faces planes = record { each = λ j h. absurd (omega arith) }
+pub planed_none : (cs : List ℤ) (faces : List Face) (planes : List (List ℤ)) → Planed cs 0 faces planes
+planed_none cs faces planes = record { each = λ j h. absurd (omega arith) }
 
-pub planed-more : {cs : List ℤ} {i : ℕ} {faces : List Face} {planes : List (List ℤ)} {w : List ℤ} → Planed cs i faces planes → i < length planes → w ≡ planeOn (touch cs) (get_or faces i []) → Planed cs (i + 1) faces (set planes i w)
-planed-more {cs} {i} {faces} {planes} {w} h l e = record { each = λ j b. go j b (same_or j i) }
+pub planed_more : {cs : List ℤ} {i : ℕ} {faces : List Face} {planes : List (List ℤ)} {w : List ℤ} → Planed cs i faces planes → i < length planes → w ≡ plane_on (touch cs) (get_or faces i []) → Planed cs (i + 1) faces (set planes i w)
+planed_more {cs} {i} {faces} {planes} {w} h l e = record { each = λ j b. go j b (same_or j i) }
   where
     go : (j : ℕ) → j < i + 1 → (j ≡ i) ⊎ (j ≢ i) → PlanedAt cs faces (set planes i w) j
     go j b (inl s) = record { is = rw s (get_or-set_same planes i w [] l ∙ e) }
@@ -55,37 +55,37 @@ planed-more {cs} {i} {faces} {planes} {w} h l e = record { each = λ j b. go j b
 
 -- a face and its plane put at place m, where y holds
 module _ {cs : List ℤ} {faces : List Face} {planes : List (List ℤ)} {m : ℕ} (f : Face) (w : List ℤ) (a : m < length faces) (b : m < length planes) where
-  pub put-apart : (y : Bool) {j : ℕ} → j ≢ m → PlanedAt cs faces planes j → PlanedAt cs (lay m (only_if y f) faces) (lay m (only_if y w) planes) j
-  put-apart true {j} d h = record { is = rw (lay-one m f faces a, lay-one m w planes b) (get_or-set_other planes m j w [] d ∙ h.is ∙ ap (planeOn (touch cs)) (sym (get_or-set_other faces m j f [] d))) }
-  put-apart false d h = rw (lay-none m faces, lay-none m planes) h
+  pub put_apart : (y : Bool) {j : ℕ} → j ≢ m → PlanedAt cs faces planes j → PlanedAt cs (lay m (only_if y f) faces) (lay m (only_if y w) planes) j
+  put_apart true {j} d h = record { is = rw (lay_one m f faces a, lay_one m w planes b) (get_or-set_other planes m j w [] d ∙ h.is ∙ ap (plane_on (touch cs)) (sym (get_or-set_other faces m j f [] d))) }
+  put_apart false d h = rw (lay_none m faces, lay_none m planes) h
 
-  module _ (e : w ≡ planeOn (touch cs) f) where
-    pub put-planed : (y : Bool) → Planed cs m faces planes → Planed cs (m + length (only_if y f)) (lay m (only_if y f) faces) (lay m (only_if y w) planes)
-    put-planed y h = record { each = λ j l. go y j l (same_or j m) }
+  module _ (e : w ≡ plane_on (touch cs) f) where
+    pub put_planed : (y : Bool) → Planed cs m faces planes → Planed cs (m + length (only_if y f)) (lay m (only_if y f) faces) (lay m (only_if y w) planes)
+    put_planed y h = record { each = λ j l. go y j l (same_or j m) }
       where
         go : (y : Bool) (j : ℕ) → j < m + length (only_if y f) → (j ≡ m) ⊎ (j ≢ m) → PlanedAt cs (lay m (only_if y f) faces) (lay m (only_if y w) planes) j
-        go true j l (inl s) = record { is = rw (s, lay-one m f faces a, lay-one m w planes b) (get_or-set_same planes m w [] b ∙ e ∙ ap (planeOn (touch cs)) (sym (get_or-set_same faces m f [] a))) }
+        go true j l (inl s) = record { is = rw (s, lay_one m f faces a, lay_one m w planes b) (get_or-set_same planes m w [] b ∙ e ∙ ap (plane_on (touch cs)) (sym (get_or-set_same faces m f [] a))) }
         go false j l (inl s) = absurd (omega arith)
-        go y j l (inr d) = put-apart y d (h.each j (omega (arith, length-only y f)))
+        go y j l (inr d) = put_apart y d (h.each j (omega (arith, length_only y f)))
 
 -- ---- the search for the first face that q is in front of
 -- q is in front of none of the first i
 pub record Behind (planes : List (List ℤ)) (q : Point) (i : ℕ) : Type 0 where
-  pub each : (j : ℕ) → j < i → lt_z (readAt (get_or planes j []) q) (pos 0) ≡ false
+  pub each : (j : ℕ) → j < i → lt_z (read_at (get_or planes j []) q) (pos 0) ≡ false
 
-pub behind-none : (planes : List (List ℤ)) (q : Point) → Behind planes q 0
-behind-none planes q = record { each = λ j h. absurd (omega arith) }
+pub behind_none : (planes : List (List ℤ)) (q : Point) → Behind planes q 0
+behind_none planes q = record { each = λ j h. absurd (omega arith) }
 
 module _ {planes : List (List ℤ)} {q : Point} {i : ℕ} (b : Behind planes q i) where
-  pub behind_more : lt_z (readAt (get_or planes i []) q) (pos 0) ≡ false → Behind planes q (i + 1)
+  pub behind_more : lt_z (read_at (get_or planes i []) q) (pos 0) ≡ false → Behind planes q (i + 1)
   behind_more e = record { each = λ j h. go j h (same_or j i) }
     where
-      go : (j : ℕ) → j < i + 1 → (j ≡ i) ⊎ (j ≢ i) → lt_z (readAt (get_or planes j []) q) (pos 0) ≡ false
+      go : (j : ℕ) → j < i + 1 → (j ≡ i) ⊎ (j ≢ i) → lt_z (read_at (get_or planes j []) q) (pos 0) ≡ false
       go j h (inl s) = rw s e
       go j h (inr d) = b.each j (omega arith)
 
-  pub front-here : {n : ℕ} → i < n → lt_z (readAt (get_or planes i []) q) (pos 0) ≡ true → FirstFront planes n q i
-  front-here h e = record { within = omega arith; before = b.each; here = λ _. e }
+  pub front_here : {n : ℕ} → i < n → lt_z (read_at (get_or planes i []) q) (pos 0) ≡ true → FirstFront planes n q i
+  front_here h e = record { within = omega arith; before = b.each; here = λ _. e }
 
-  pub front-nowhere : {n : ℕ} → i ≡ n → FirstFront planes n q n
-  front-nowhere e = record { within = omega arith; before = λ j h. b.each j (omega arith); here = λ h. absurd (omega arith) }
+  pub front_nowhere : {n : ℕ} → i ≡ n → FirstFront planes n q n
+  front_nowhere e = record { within = omega arith; before = λ j h. b.each j (omega arith); here = λ h. absurd (omega arith) }

@@ -5,10 +5,10 @@ use Rattle.std.specs.Int.Signed.{lt_z}
 use Rattle.laws.specs.Lists.{In, Laid}
 use Rattle.touches.specs.declared.Point.{Point}
 use Rattle.touches.specs.declared.FaceNo.{FaceNo}
-use Rattle.touches.specs.Touches.{touchCount, touch, Sound}
-use Rattle.touches.specs.Refusals.{placeInNoTriangle, because}
+use Rattle.touches.specs.Touches.{touch_count, touch, Sound}
+use Rattle.touches.specs.Refusals.{place_in_no_triangle, because}
 use Rattle.touches.specs.Check.{pick}
-use Rattle.rules.specs.Faces.{Face, faceVol}
+use Rattle.rules.specs.Faces.{Face, face_vol}
 use Rattle.rules.specs.Start.{Start, start}
 use Rattle.rules.specs.Building.{seen, unseen, after, others}
 use Rattle.rules.specs.Demands.{FaceOf}
@@ -16,7 +16,7 @@ use Rattle.cover.specs.Room.{enough}
 use Rattle.table.specs.Table.{room}
 use Rattle.border.specs.Marks.{MarkTable}
 use Rattle.hull.specs.Whole.{Planed}
-use Rattle.hull.specs.Build.{builtFrom, tableAfter}
+use Rattle.hull.specs.Build.{built_from, table_after}
 use Rattle.hull.specs.declared.build.Built.{Built}
 use Rattle.hull.specs.declared.place.Worst.{Worst}
 use Rattle.hull.specs.declared.place.First.{First}
@@ -25,14 +25,14 @@ use Rattle.hull.specs.declared.place.Placed.{Placed}
 use Rattle.hull.specs.declared.place.Placed.TheVariants.{Outside, On, Inside, Refused}
 
 -- q is strictly in front of face f
-abbrev pub inFront : List ℤ → Point → Face → Bool
-inFront cs q f = lt_z (faceVol (touch cs) f q) (pos 0)
+abbrev pub in_front : List ℤ → Point → Face → Bool
+in_front cs q f = lt_z (face_vol (touch cs) f q) (pos 0)
 
 -- coordinates that passed refusals 1 to 3, faces over them and one of their touches
 pub record Ready (cs : List ℤ) (h : List Face) (k : ℕ) : Type 0 where
   pub sound : Sound cs
   pub faces : (f : Face) → In f h → FaceOf cs f
-  pub touch : k < touchCount cs
+  pub touch : k < touch_count cs
 
 -- the faces h parted: the first m of the table kept, over old, are those not visible from k, and the first s of the table front the others
 pub record PartOf (cs : List ℤ) (h : List Face) (k : ℕ) (old : List Face) (m : ℕ) (kept : List Face) (s : ℕ) (front : List Face) : Type 0 where
@@ -43,7 +43,7 @@ pub record PartOf (cs : List ℤ) (h : List Face) (k : ℕ) (old : List Face) (m
 -- the start of coordinates that passed refusals 1 to 3
 pub record Begun (cs : List ℤ) (s : Start) : Type 0 where
   pub sound : Sound cs
-  pub begins : start (touch cs) (touchCount cs) ≡ some s
+  pub begins : start (touch cs) (touch_count cs) ≡ some s
 
 -- the first m faces of a table are those after the start s and the other touches below k, and have their planes
 pub record Taken (cs : List ℤ) (s : Start) (k m : ℕ) (table : List Face) (planes : List (List ℤ)) : Type 0 where
@@ -53,15 +53,15 @@ pub record Taken (cs : List ℤ) (s : Start) (k m : ℕ) (table : List Face) (pl
 
 -- tables to build in for the touches cs, with room for every face list of every step: one length for all but the marks
 pub record Tables (cs : List ℤ) (table : List Face) (planes : List (List ℤ)) (seen : List Face) (marks : List ℕ) : Type 0 where
-  pub room : enough (touchCount cs) ≤ length table
-  pub planes-long : length planes ≡ length table
-  pub seen-long : length seen ≡ length table
-  pub mark-table : MarkTable (touchCount cs) marks
+  pub room : enough (touch_count cs) ≤ length table
+  pub planes_long : length planes ≡ length table
+  pub seen_long : length seen ≡ length table
+  pub mark_table : MarkTable (touch_count cs) marks
 
 -- what building gives and leaves in the lent table: one contract, whatever tables it works in; h is the face list
 pub record Builds (cs : List ℤ) (h : Option (List Face)) (old : List ℕ) (r : Built) (after : List ℕ) : Type 0 where
-  pub answer : r ≡ builtFrom (touch cs) (room old) h
-  pub table : after ≡ tableAfter r h old
+  pub answer : r ≡ built_from (touch cs) (room old) h
+  pub table : after ≡ table_after r h old
 
 -- the worst face once f is looked at, with its V
 abbrev pub worse : Worst → FaceNo → ℤ → Worst
@@ -73,10 +73,10 @@ earlier Nowhere f b = pick b (At f) Nowhere
 earlier (At g) f b = At g
 
 -- a face in front comes before one that holds the place, and that before one whose plane does
-abbrev pub settledBehind : First → First → Placed
-settledBehind (At g) e = On g
-settledBehind Nowhere (At g) = Refused (because placeInNoTriangle)
-settledBehind Nowhere Nowhere = Inside
+abbrev pub settled_behind : First → First → Placed
+settled_behind (At g) e = On g
+settled_behind Nowhere (At g) = Refused (because place_in_no_triangle)
+settled_behind Nowhere Nowhere = Inside
 
 abbrev pub settled : Worst → First → First → Placed
-settled w o e = pick (lt_z w.v (pos 0)) (Outside w.face (neg_ℤ w.v)) (settledBehind o e)
+settled w o e = pick (lt_z w.v (pos 0)) (Outside w.face (neg_ℤ w.v)) (settled_behind o e)

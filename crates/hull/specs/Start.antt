@@ -1,10 +1,10 @@
 -- The search for the start, as the inner steps' contracts cite it.
 use Rattle.std.specs.Prelude.{Bool, not, cond, ℕ, ◌+◌, ◌<◌, eqb, ltb}
 use Rattle.std.proofs.Math.Option.{Option, none, some}
-use Rattle.touches.specs.Touches.{touchNo}
-use Rattle.volume.specs.Volume.{Vol, inLine, is_zero}
+use Rattle.touches.specs.Touches.{touch_no}
+use Rattle.volume.specs.Volume.{Vol, in_line, is_zero}
 use Rattle.rules.specs.Faces.{Places}
-use Rattle.rules.specs.Start.{samePlace, Start as Four}
+use Rattle.rules.specs.Start.{same_place, Start as Four}
 use Rattle.hull.specs.declared.start.Sought.{Sought}
 use Rattle.hull.specs.declared.start.Sought.TheVariants.{Apart, OffLine, OffPlane}
 use Rattle.hull.specs.declared.start.Found.{Found}
@@ -15,8 +15,8 @@ use Rattle.hull.specs.declared.start.Started.TheVariants.{Flat, From}
 
 -- the test of the rule for Q, R and S, P being touch 0
 abbrev pub suits : Places → Sought → ℕ → Bool
-suits p Apart k = not (samePlace (p 0) (p k))
-suits p (OffLine q) k = not (inLine (p 0) (p q.0) (p k))
+suits p Apart k = not (same_place (p 0) (p k))
+suits p (OffLine q) k = not (in_line (p 0) (p q.0) (p k))
 suits p (OffPlane q r) k = not (is_zero (Vol (p 0) (p q.0) (p r.0) (p k)))
 
 -- what is looked for names only touches below n
@@ -25,14 +25,14 @@ Known n Apart = Unit {0}
 Known n (OffLine q) = q.0 < n
 Known n (OffPlane q r) = (q.0 < n) × (r.0 < n)
 
-abbrev pub foundOf : Option ℕ → Found
-foundOf none = Nowhere
-foundOf (some k) = At (touchNo k)
+abbrev pub found_of : Option ℕ → Found
+found_of none = Nowhere
+found_of (some k) = At (touch_no k)
 
 -- the rule's P, Q, R, S as the code holds them, and back
-abbrev pub startedOf : Option Four → Started
-startedOf none = Flat
-startedOf (some s) = From (record { p = touchNo s.P; q = touchNo s.Q; r = touchNo s.R; s = touchNo s.S })
+abbrev pub started_of : Option Four → Started
+started_of none = Flat
+started_of (some s) = From (record { p = touch_no s.P; q = touch_no s.Q; r = touch_no s.R; s = touch_no s.S })
 
 abbrev pub start_of : Start → Four
 start_of s = record { P = s.p.0; Q = s.q.0; R = s.r.0; S = s.s.0 }
@@ -42,8 +42,8 @@ abbrev pub past : ℕ → ℕ → ℕ
 past k t = cond (eqb k t) (k + 1) k
 
 -- the first number from k on that is not of the start: P is 0 and below k, and Q, R and S rise
-abbrev pub nextOther : Four → ℕ → ℕ
-nextOther s k = cond (ltb s.S k) k (past (past (past k s.Q) s.R) s.S)
+abbrev pub next_other : Four → ℕ → ℕ
+next_other s k = cond (ltb s.S k) k (past (past (past k s.Q) s.R) s.S)
 
 -- all four are below n
 pub record KnownStart (n : ℕ) (f : Start) : Type 0 where

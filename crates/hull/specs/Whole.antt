@@ -5,21 +5,21 @@ use Rattle.touches.specs.declared.Point.{Point}
 use Rattle.touches.specs.Touches.{touch}
 use Rattle.volume.specs.Volume.{dot}
 use Rattle.rules.specs.Faces.{Face}
-use Rattle.points.specs.Whole.{planeOn, slope}
+use Rattle.points.specs.Whole.{plane_on, slope}
 
 -- what V is, read from the plane
-abbrev pub readAt : List ℤ → Point → ℤ
-readAt w q = get_or w 3 (pos 0) -ℤ dot (slope w) q
+abbrev pub read_at : List ℤ → Point → ℤ
+read_at w q = get_or w 3 (pos 0) -ℤ dot (slope w) q
 
 -- r is the number of the first of n planes whose face q is in front of, n where there is none
 pub record FirstFront (planes : List (List ℤ)) (n : ℕ) (q : Point) (r : ℕ) : Type 0 where
   pub within : r ≤ n
-  pub before : (j : ℕ) → j < r → lt_z (readAt (get_or planes j []) q) (pos 0) ≡ false
-  pub here : r < n → lt_z (readAt (get_or planes r []) q) (pos 0) ≡ true
+  pub before : (j : ℕ) → j < r → lt_z (read_at (get_or planes j []) q) (pos 0) ≡ false
+  pub here : r < n → lt_z (read_at (get_or planes r []) q) (pos 0) ≡ true
 
 -- plane number j of a table is that of face number j
 pub record PlanedAt (cs : List ℤ) (faces : List Face) (planes : List (List ℤ)) (j : ℕ) : Type 0 where
-  pub is : get_or planes j [] ≡ planeOn (touch cs) (get_or faces j [])
+  pub is : get_or planes j [] ≡ plane_on (touch cs) (get_or faces j [])
 
 -- so are the first m
 pub record Planed (cs : List ℤ) (m : ℕ) (faces : List Face) (planes : List (List ℤ)) : Type 0 where

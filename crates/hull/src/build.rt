@@ -1,12 +1,12 @@
 // The hull of a touch list, into a lent face table.
 ghost use Rattle.std.specs.Prelude.{◌≡◌, ◌≤◌, length};
 ghost use Rattle.std.proofs.Math.Option.{some};
-ghost use Rattle.touches.specs.Limits.{mostFaces};
-ghost use Rattle.touches.specs.Touches.{touch, touchCount, Sound};
+ghost use Rattle.touches.specs.Limits.{most_faces};
+ghost use Rattle.touches.specs.Touches.{touch, touch_count, Sound};
 ghost use Rattle.rules.specs.Building.{volume};
 ghost use Rattle.hull.specs.Whole.{Planed};
 ghost use Rattle.hull.specs.Inner.{Ready, Builds};
-ghost use Rattle.hull.specs.Build.{hullOf, built, tableAfter};
+ghost use Rattle.hull.specs.Build.{hull_of, built, table_after};
 
 use crate::rooms::build_from;
 use crate::start::{Started, find_start};
@@ -23,7 +23,7 @@ pub enum Built {
 // The sum of V(face, touch 0).
 fn six_volume(coords: &[i32], hull: &[[u16; 3]], planes: &[[i64; 4]]) -> i64
     requires { Ready coords.now hull.now 0 × Planed coords.now (length hull.now) hull.now planes.now
-        × (length hull.now ≤ length planes.now) × (length hull.now ≤ mostFaces) }
+        × (length hull.now ≤ length planes.now) × (length hull.now ≤ most_faces) }
     ensures { result ≡ volume (touch coords.now) hull.now }
 {
     let q = touch(coords, TouchNo(0));
@@ -44,7 +44,7 @@ pub(crate) fn write_hull(
     planes: &[[i64; 4]],
 ) -> Built
     requires { Ready coords.now hull.now 0 × Planed coords.now (length hull.now) hull.now planes.now
-        × (length hull.now ≤ length planes.now) × (length hull.now ≤ mostFaces) }
+        × (length hull.now ≤ length planes.now) × (length hull.now ≤ most_faces) }
     ensures { Builds coords.now (some hull.now) faces.old result faces.new }
 {
     if !table::put_faces(faces, hull) {
@@ -55,8 +55,8 @@ pub(crate) fn write_hull(
 
 // Building on coordinates of n touches that passed refusals 1 to 3: refusals 4, 5.
 fn build_checked(faces: &mut [u16], coords: &[i32], n: usize) -> Built
-    requires { Sound coords.now × (n ≡ touchCount coords.now) }
-    ensures { Builds coords.now (hullOf coords.now) faces.old result faces.new }
+    requires { Sound coords.now × (n ≡ touch_count coords.now) }
+    ensures { Builds coords.now (hull_of coords.now) faces.old result faces.new }
 {
     match find_start(coords, n) {
         Started::Flat => Built::Refused(Refusal::because(Refusal::ALL_TOUCHES_ON_ONE_PLANE)),
@@ -67,7 +67,7 @@ fn build_checked(faces: &mut [u16], coords: &[i32], n: usize) -> Built
 // Refusals 1, 2, 3, 4, 5. A refusal changes nothing.
 pub fn build(coords: &[i32], faces: &mut [u16]) -> Built
     ensures answer { result ≡ built coords.now faces.old }
-    ensures table { faces.new ≡ tableAfter result (hullOf coords.now) faces.old }
+    ensures table { faces.new ≡ table_after result (hull_of coords.now) faces.old }
 {
     match touches::check(coords) {
         Checked::Refused(r) => Built::Refused(r),

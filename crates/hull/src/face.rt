@@ -1,8 +1,8 @@
 // V of a face, given by its touch numbers, and a point; and whether the face holds the point.
 ghost use Rattle.std.specs.Prelude.{◌≡◌};
 ghost use Rattle.touches.specs.Touches.{touch, plain, Near, Sound};
-ghost use Rattle.volume.specs.Volume.{mostVolume};
-ghost use Rattle.rules.specs.Faces.{faceVol};
+ghost use Rattle.volume.specs.Volume.{most_volume};
+ghost use Rattle.rules.specs.Faces.{face_vol};
 ghost use Rattle.rules.specs.Placing.{holds};
 ghost use Rattle.rules.specs.Demands.{FaceOf};
 ghost use Rattle.points.specs.Sizes.{Number};
@@ -14,7 +14,7 @@ use triangles::contains;
 
 pub(crate) fn face_volume(coords: &[i32], f: [TouchNo; 3], q: Point) -> i64
     requires { Sound coords.now × FaceOf coords.now (plain f) × Near q }
-    ensures { Number mostVolume (faceVol (touch coords.now) (plain f) q) result }
+    ensures { Number most_volume (face_vol (touch coords.now) (plain f) q) result }
 {
     let a = touch(coords, f[0]);
     let b = touch(coords, f[1]);
@@ -24,7 +24,7 @@ pub(crate) fn face_volume(coords: &[i32], f: [TouchNo; 3], q: Point) -> i64
 
 // V of the face and q is known: v.
 pub(crate) fn face_holds(coords: &[i32], f: [TouchNo; 3], q: Point, v: i64) -> bool
-    requires { Sound coords.now × FaceOf coords.now (plain f) × Near q × Number mostVolume (faceVol (touch coords.now) (plain f) q) v }
+    requires { Sound coords.now × FaceOf coords.now (plain f) × Near q × Number most_volume (face_vol (touch coords.now) (plain f) q) v }
     ensures { result ≡ holds (touch coords.now) (plain f) q }
 {
     if v != 0 {

@@ -1,12 +1,12 @@
 // Where a place lies against a face table, hull or not.
 ghost use Rattle.std.specs.Prelude.{◌≡◌, true};
 ghost use Rattle.laws.specs.Numbers.{Within};
-ghost use Rattle.touches.specs.Touches.{touch, touchCount, Near, Sound};
-ghost use Rattle.volume.specs.Volume.{mostVolume};
+ghost use Rattle.touches.specs.Touches.{touch, touch_count, Near, Sound};
+ghost use Rattle.volume.specs.Volume.{most_volume};
 ghost use Rattle.rules.specs.Placing.{lies};
-ghost use Rattle.table.specs.Table.{facesIn, usable};
+ghost use Rattle.table.specs.Table.{faces_in, usable};
 ghost use Rattle.hull.specs.Inner.{worse, earlier, settled};
-ghost use Rattle.hull.specs.Place.{placedBy, placed};
+ghost use Rattle.hull.specs.Place.{placed_by, placed};
 
 use crate::face::{face_holds, face_volume};
 use touches::{Checked, FaceNo, Point, Refusal};
@@ -36,7 +36,7 @@ enum First {
 
 // Face f is the worst if its V is less than any before it.
 fn worse(w: Worst, f: FaceNo, v: i64) -> Worst
-    requires { Within mostVolume w.v × Within mostVolume v }
+    requires { Within most_volume w.v × Within most_volume v }
     ensures { result ≡ worse w f v }
 {
     if v < w.v {
@@ -62,7 +62,7 @@ fn earlier(first: First, f: FaceNo, here: bool) -> First
 
 // A face that the place is in front of comes before one that holds it, and that before one whose plane does.
 fn settle(w: Worst, on: First, plane: First) -> Placed
-    requires { Within mostVolume w.v }
+    requires { Within most_volume w.v }
     ensures { result ≡ settled w on plane }
 {
     let f = w.face;
@@ -79,8 +79,8 @@ fn settle(w: Worst, on: First, plane: First) -> Placed
 }
 
 fn look(coords: &[i32], faces: &[u16], q: Point) -> Placed
-    requires { Sound coords.now × (usable (touchCount coords.now) faces.now ≡ true) × Near q }
-    ensures { result ≡ placedBy (lies (touch coords.now) (facesIn faces.now) q) }
+    requires { Sound coords.now × (usable (touch_count coords.now) faces.now ≡ true) × Near q }
+    ensures { result ≡ placed_by (lies (touch coords.now) (faces_in faces.now) q) }
 {
     let n = table::room(faces);
     let mut w = Worst {

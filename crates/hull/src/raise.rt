@@ -1,5 +1,5 @@
 // From the start to the whole hull, in the tables that building works in, on coordinates that passed refusals 1 to 3.
-ghost use Rattle.touches.specs.Touches.{touchCount};
+ghost use Rattle.touches.specs.Touches.{touch_count};
 ghost use Rattle.border.specs.Marks.{Fresh};
 ghost use Rattle.hull.specs.Start.{start_of};
 ghost use Rattle.hull.specs.Inner.{Begun, Taken, Tables};
@@ -21,7 +21,7 @@ pub(crate) fn raise(
 ) -> usize
     requires { Begun coords.now (start_of s) × Tables coords.now table.old planes.old seen.old marks.old
         × Fresh 0 marks.old }
-    ensures { Taken coords.now (start_of s) (touchCount coords.now) result table.new planes.new }
+    ensures { Taken coords.now (start_of s) (touch_count coords.now) result table.new planes.new }
 {
     let n = coords.len() / 3;
     let mut m = put_start(table, coords, s);

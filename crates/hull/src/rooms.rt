@@ -1,7 +1,7 @@
 // The tables that building works in: n touches give at most 2n − 4 faces after every step (`cover` FewFaces), so none is ever full.
 ghost use Rattle.border.specs.Marks.{Fresh};
 ghost use Rattle.hull.specs.Start.{start_of};
-ghost use Rattle.hull.specs.Build.{hullOf};
+ghost use Rattle.hull.specs.Build.{hull_of};
 ghost use Rattle.hull.specs.Inner.{Begun, Tables, Builds};
 
 use crate::build::{Built, write_hull};
@@ -31,7 +31,7 @@ fn build_in(
 ) -> Built
     requires { Begun coords.now (start_of s) × Tables coords.now table.old planes.old seen.old marks.old
         × Fresh 0 marks.old }
-    ensures { Builds coords.now (hullOf coords.now) faces.old result faces.new }
+    ensures { Builds coords.now (hull_of coords.now) faces.old result faces.new }
 {
     let m = raise(table, planes, seen, marks, coords, s);
     write_hull(faces, coords, &table[..m], planes)
@@ -40,7 +40,7 @@ fn build_in(
 // In tables for as many touches as there can be.
 fn build_many(faces: &mut [u16], coords: &[i32], s: Start) -> Built
     requires { Begun coords.now (start_of s) }
-    ensures { Builds coords.now (hullOf coords.now) faces.old result faces.new }
+    ensures { Builds coords.now (hull_of coords.now) faces.old result faces.new }
 {
     let mut table = [[0u16; 3]; TouchList::ENOUGH_FACES];
     let mut planes = [NO_PLANE; TouchList::ENOUGH_FACES];
@@ -60,7 +60,7 @@ fn build_many(faces: &mut [u16], coords: &[i32], s: Start) -> Built
 // Building from the start: for a few touches in small tables.
 pub(crate) fn build_from(faces: &mut [u16], coords: &[i32], s: Start) -> Built
     requires { Begun coords.now (start_of s) }
-    ensures { Builds coords.now (hullOf coords.now) faces.old result faces.new }
+    ensures { Builds coords.now (hull_of coords.now) faces.old result faces.new }
 {
     if FEW < coords.len() / 3 {
         return build_many(faces, coords, s);

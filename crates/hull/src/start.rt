@@ -1,9 +1,9 @@
 // The start: P, Q, R and S, and the four faces over A, B, C and D.
 ghost use Rattle.std.specs.Prelude.{◌≡◌, [], ◌<◌, ◌≤◌, length, get_or};
 ghost use Rattle.laws.specs.Lists.{first, upward, Laid};
-ghost use Rattle.touches.specs.Touches.{touch, touchCount, Sound};
-ghost use Rattle.rules.specs.Start.{samePlace, start, corners, startFaces};
-ghost use Rattle.hull.specs.Start.{suits, Known, foundOf, start_of, startedOf, past, nextOther, KnownStart};
+ghost use Rattle.touches.specs.Touches.{touch, touch_count, Sound};
+ghost use Rattle.rules.specs.Start.{same_place, start, corners, start_faces};
+ghost use Rattle.hull.specs.Start.{suits, Known, found_of, start_of, started_of, past, next_other, KnownStart};
 
 use crate::four_corner::volume;
 use points::touch::touch;
@@ -42,13 +42,13 @@ pub(crate) enum Started {
 }
 
 fn same_place(p: Point, q: Point) -> bool
-    ensures { result ≡ samePlace p q }
+    ensures { result ≡ same_place p q }
 {
     (p.x == q.x) & ((p.y == q.y) & (p.z == q.z))
 }
 
 fn is_suited(coords: &[i32], what: Sought, k: TouchNo) -> bool
-    requires { Sound coords.now × Known (touchCount coords.now) what × (k.0 < touchCount coords.now) }
+    requires { Sound coords.now × Known (touch_count coords.now) what × (k.0 < touch_count coords.now) }
     ensures { result ≡ suits (touch coords.now) what k.0 }
 {
     let p = touch(coords, TouchNo(0));
@@ -62,8 +62,8 @@ fn is_suited(coords: &[i32], what: Sought, k: TouchNo) -> bool
 
 // The first of the n touches that is suited.
 fn first_suited(coords: &[i32], n: usize, what: Sought) -> Found
-    requires { Sound coords.now × (n ≡ touchCount coords.now) × Known n what }
-    ensures { result ≡ foundOf (first (suits (touch coords.now) what) (upward 0 n)) }
+    requires { Sound coords.now × (n ≡ touch_count coords.now) × Known n what }
+    ensures { result ≡ found_of (first (suits (touch coords.now) what) (upward 0 n)) }
 {
     let mut k: usize = 0;
     while k < n {
@@ -76,8 +76,8 @@ fn first_suited(coords: &[i32], n: usize, what: Sought) -> Found
 }
 
 pub(crate) fn find_start(coords: &[i32], n: usize) -> Started
-    requires { Sound coords.now × (n ≡ touchCount coords.now) }
-    ensures { result ≡ startedOf (start (touch coords.now) n) }
+    requires { Sound coords.now × (n ≡ touch_count coords.now) }
+    ensures { result ≡ started_of (start (touch coords.now) n) }
 {
     let Found::At(q) = first_suited(coords, n, Sought::Apart) else {
         return Started::Flat;
@@ -110,7 +110,7 @@ fn past(k: usize, t: TouchNo) -> usize
 // The first touch from number k on that is not of the start. P is touch 0, which is never asked about; Q, R and S rise, so that
 // a touch after S needs one look.
 pub(crate) fn next_other(s: Start, k: usize) -> usize
-    ensures { result ≡ nextOther (start_of s) k }
+    ensures { result ≡ next_other (start_of s) k }
 {
     let last = s.s.0;
     if (last as usize) < k {
@@ -121,7 +121,7 @@ pub(crate) fn next_other(s: Start, k: usize) -> usize
 
 // A, B, C, D.
 fn corners(coords: &[i32], s: Start) -> [u16; 4]
-    requires { Sound coords.now × KnownStart (touchCount coords.now) s }
+    requires { Sound coords.now × KnownStart (touch_count coords.now) s }
     ensures { result ≡ corners (touch coords.now) (start_of s) }
 {
     let p = touch(coords, s.p);
@@ -136,7 +136,7 @@ fn corners(coords: &[i32], s: Start) -> [u16; 4]
 // Starting face number i over A, B, C, D.
 fn start_face(abcd: [u16; 4], i: usize) -> [u16; 3]
     requires { i < 4 }
-    ensures { result ≡ get_or (startFaces abcd) i [] }
+    ensures { result ≡ get_or (start_faces abcd) i [] }
 {
     let t = START[i];
     [abcd[t[0]], abcd[t[1]], abcd[t[2]]]
@@ -144,8 +144,8 @@ fn start_face(abcd: [u16; 4], i: usize) -> [u16; 3]
 
 // The four starting faces: how many they are.
 pub(crate) fn put_start(table: &mut [[u16; 3]], coords: &[i32], s: Start) -> usize
-    requires { Sound coords.now × KnownStart (touchCount coords.now) s × (4 ≤ length table.old) }
-    ensures { Laid 0 (startFaces (corners (touch coords.now) (start_of s))) table.old result table.new }
+    requires { Sound coords.now × KnownStart (touch_count coords.now) s × (4 ≤ length table.old) }
+    ensures { Laid 0 (start_faces (corners (touch coords.now) (start_of s))) table.old result table.new }
 {
     let abcd = corners(coords, s);
     let mut i: usize = 0;

@@ -2,11 +2,11 @@
 ghost use Rattle.std.specs.Prelude.{◌≡◌, [], ℕ, ◌*◌, ◌<◌, ◌≤◌, pos, length, get_or};
 ghost use Rattle.std.specs.Int.Signed.{lt_z};
 ghost use Rattle.touches.specs.Touches.{Near, Sound};
-ghost use Rattle.volume.specs.Volume.{mostVolume};
+ghost use Rattle.volume.specs.Volume.{most_volume};
 ghost use Rattle.rules.specs.Demands.{FaceOf};
 ghost use Rattle.points.specs.Sizes.{Number};
 ghost use Rattle.points.specs.Whole.{PlaneNear};
-ghost use Rattle.hull.specs.Whole.{readAt, FirstFront, Planed};
+ghost use Rattle.hull.specs.Whole.{read_at, FirstFront, Planed};
 
 use points::vectors::dot;
 use points::whole::plane_on;
@@ -15,7 +15,7 @@ use touches::Point;
 // V of the face whose plane p is, and q.
 pub(crate) fn read(p: [i64; 4], q: Point) -> i64
     requires { PlaneNear p × Near q }
-    ensures { Number (2 * mostVolume) (readAt p q) result }
+    ensures { Number (2 * most_volume) (read_at p q) result }
 {
     let n = Point {
         x: p[0],
@@ -28,7 +28,7 @@ pub(crate) fn read(p: [i64; 4], q: Point) -> i64
 // q is strictly in front of the face whose plane p is: edge-on does not count.
 pub(crate) fn in_front(p: [i64; 4], q: Point) -> bool
     requires { PlaneNear p × Near q }
-    ensures { result ≡ lt_z (readAt p q) (pos 0) }
+    ensures { result ≡ lt_z (read_at p q) (pos 0) }
 {
     read(p, q) < 0
 }

@@ -8,7 +8,7 @@ use Prim.Native.Nat.{ℕ, ◌+◌}
 use native.Mathlib.Omega.{arith}
 use lib.ListN.{length}
 use Rattle.laws.specs.Lists.{In, Pw, Nodup}
-use Rattle.laws.proofs.Members.{here, there, cons-each}
+use Rattle.laws.proofs.Members.{here, there, cons_each}
 
 -- no two elements have one number by P
 abbrev pub Single : {A : Type 0} → (A → ℕ → Type 0) → List A → Type 0
@@ -34,7 +34,7 @@ module _ {A : Type 0} (P : A → ℕ → Type 0) (x : A) (l : List A) (L : Label
   pass = record { all = L.all; of = later; once = L.once }
 
   abbrev add : (v : ℕ) → P x v → ((y : A) → In y l → (v : ℕ) → P x v → P y v → ⊥) → Labels P (x ∷ l)
-  add v k new = record { all = v ∷ L.all; of = cons-each (λ u. (y : A) × In y (x ∷ l) × P y u) (x, here refl, k) later; once = (fresh, L.once) }
+  add v k new = record { all = v ∷ L.all; of = cons_each (λ u. (y : A) × In y (x ∷ l) × P y u) (x, here refl, k) later; once = (fresh, L.once) }
     where
       fresh : (u : ℕ) → In u L.all → v ≢ u
       fresh u m e = let t = L.of u m in new t.0 t.1 u (subst (P x) e k) t.2

@@ -5,9 +5,9 @@ use mathlib.Core.Bool.{Bool, true, false, not, cond, ◌&&◌, ◌||◌}
 use Prim.Native.Nat.{ℕ}
 use lib.Dec.{T, T_not, eqb, eqb→eq, eqb_refl}
 
-pub by-test {ℓ} : {X : Type 0} (c : Bool) (x y : X) (P : X → Type ℓ) → (T c → P x) → (T (not c) → P y) → P (cond c x y)
-by-test true x y P f g = f tt
-by-test false x y P f g = g tt
+pub by_test {ℓ} : {X : Type 0} (c : Bool) (x y : X) (P : X → Type ℓ) → (T c → P x) → (T (not c) → P y) → P (cond c x y)
+by_test true x y P f g = f tt
+by_test false x y P f g = g tt
 
 pub T-or : (b : Bool) → T b ⊎ T (not b)
 T-or true = inl tt
@@ -44,17 +44,17 @@ and_both true true t = (tt, tt)
 and_both true false t = absurd t
 and_both false b t = absurd t
 
-pub both-and : (a b : Bool) → T a → T b → T (a && b)
-both-and true b t u = u
-both-and false b t u = absurd t
+pub both_and : (a b : Bool) → T a → T b → T (a && b)
+both_and true b t u = u
+both_and false b t u = absurd t
 
-pub and-true : (b : Bool) → b && true ≡ b
-and-true true = refl
-and-true false = refl
+pub and_true : (b : Bool) → b && true ≡ b
+and_true true = refl
+and_true false = refl
 
-pub or-either : (a b : Bool) → T (a || b) → T a ⊎ T b
-or-either true b t = inl tt
-or-either false b t = inr t
+pub or_either : (a b : Bool) → T (a || b) → T a ⊎ T b
+or_either true b t = inl tt
+or_either false b t = inr t
 
 pub or_left : (a b : Bool) → T a → T (a || b)
 or_left true b t = tt
@@ -64,10 +64,10 @@ pub or_right : (a b : Bool) → T b → T (a || b)
 or_right true b t = tt
 or_right false b t = t
 
-pub not-not : (b : Bool) → T (not (not b)) → T b
-not-not true t = tt
-not-not false t = absurd t
+pub not_not : (b : Bool) → T (not (not b)) → T b
+not_not true t = tt
+not_not false t = absurd t
 
-pub →not-not : (b : Bool) → T b → T (not (not b))
-→not-not true t = tt
-→not-not false t = absurd t
+pub →not_not : (b : Bool) → T b → T (not (not b))
+→not_not true t = tt
+→not_not false t = absurd t

@@ -26,50 +26,50 @@ unfolding up dn
 parts (pos n) = omega arith
 parts (negsuc n) = omega arith
 
-abs-mul : (x y : ℤ) → nat_abs (x *ℤ y) ≡ nat_abs x * nat_abs y
-abs-mul (pos a) (pos b) = refl
-abs-mul (pos a) (negsuc b) = abs_neg (pos (a * suc b))
-abs-mul (negsuc a) (pos b) = abs_neg (pos (suc a * b))
-abs-mul (negsuc a) (negsuc b) = refl
+abs_mul : (x y : ℤ) → nat_abs (x *ℤ y) ≡ nat_abs x * nat_abs y
+abs_mul (pos a) (pos b) = refl
+abs_mul (pos a) (negsuc b) = abs_neg (pos (a * suc b))
+abs_mul (negsuc a) (pos b) = abs_neg (pos (suc a * b))
+abs_mul (negsuc a) (negsuc b) = refl
 
-mag-abs : (z : ℤ) → mag z ≤ nat_abs z
-mag-abs (pos n) = omega arith
-mag-abs (negsuc n) = omega arith
+mag_abs : (z : ℤ) → mag z ≤ nat_abs z
+mag_abs (pos n) = omega arith
+mag_abs (negsuc n) = omega arith
 
 pub within_more : {A B : ℕ} {x : ℤ} → A ≤ B → Within A x → Within B x
 within_more l h = record { within = le_trans h.within l }
 
-pub within-neg : {A : ℕ} {x : ℤ} → Within A x → Within A (neg_ℤ x)
-within-neg {A} {x} h = record { within = omega (arith, abs_neg x) }
+pub within_neg : {A : ℕ} {x : ℤ} → Within A x → Within A (neg_ℤ x)
+within_neg {A} {x} h = record { within = omega (arith, abs_neg x) }
 
 module _ {A B : ℕ} {x y : ℤ} (h : Within A x) (k : Within B y) where
-  pub within-add : Within (A + B) (x +ℤ y)
-  within-add = record { within = under (x +ℤ y) (up x + up y) (dn x + dn y) (A + B) (sum_is x y) (omega (arith, parts x, parts y)) (omega (arith, parts x, parts y)) }
+  pub within_add : Within (A + B) (x +ℤ y)
+  within_add = record { within = under (x +ℤ y) (up x + up y) (dn x + dn y) (A + B) (sum_is x y) (omega (arith, parts x, parts y)) (omega (arith, parts x, parts y)) }
 
-  pub within-mul : Within (A * B) (x *ℤ y)
-  within-mul = record { within = rw (abs-mul x y) (mul-le-mul h.within k.within) }
+  pub within_mul : Within (A * B) (x *ℤ y)
+  within_mul = record { within = rw (abs_mul x y) (mul-le-mul h.within k.within) }
 
-pub within-sub : {A B : ℕ} {x y : ℤ} → Within A x → Within B y → Within (A + B) (x -ℤ y)
-within-sub h k = within-add h (within-neg k)
+pub within_sub : {A B : ℕ} {x y : ℤ} → Within A x → Within B y → Within (A + B) (x -ℤ y)
+within_sub h k = within_add h (within_neg k)
 
 -- a quotient rounded towards 0, and its remainder
-abs-quot : (x y : ℤ) → nat_abs (quot_z x y) ≤ nat_abs x
-abs-quot (pos a) (pos b) = div-le_self a b
-abs-quot (pos a) (negsuc b) = omega (arith, abs_neg (pos (a / suc b)), div-le_self a (suc b))
-abs-quot (negsuc a) (pos b) = omega (arith, abs_neg (pos (suc a / b)), div-le_self (suc a) b)
-abs-quot (negsuc a) (negsuc b) = div-le_self (suc a) (suc b)
+abs_quot : (x y : ℤ) → nat_abs (quot_z x y) ≤ nat_abs x
+abs_quot (pos a) (pos b) = div-le_self a b
+abs_quot (pos a) (negsuc b) = omega (arith, abs_neg (pos (a / suc b)), div-le_self a (suc b))
+abs_quot (negsuc a) (pos b) = omega (arith, abs_neg (pos (suc a / b)), div-le_self (suc a) b)
+abs_quot (negsuc a) (negsuc b) = div-le_self (suc a) (suc b)
 
-abs-rem : (x y : ℤ) → nat_abs (rem_z x y) ≤ nat_abs x
-abs-rem (pos a) y = mod-le a (nat_abs y)
-abs-rem (negsuc a) y = omega (arith, abs_neg (pos (suc a % nat_abs y)), mod-le (suc a) (nat_abs y))
+abs_rem : (x y : ℤ) → nat_abs (rem_z x y) ≤ nat_abs x
+abs_rem (pos a) y = mod-le a (nat_abs y)
+abs_rem (negsuc a) y = omega (arith, abs_neg (pos (suc a % nat_abs y)), mod-le (suc a) (nat_abs y))
 
 module _ {A : ℕ} {x : ℤ} (y : ℤ) (h : Within A x) where
-  pub within-quot : Within A (quot_z x y)
-  within-quot = record { within = le_trans (abs-quot x y) h.within }
+  pub within_quot : Within A (quot_z x y)
+  within_quot = record { within = le_trans (abs_quot x y) h.within }
 
-  pub within-rem : Within A (rem_z x y)
-  within-rem = record { within = le_trans (abs-rem x y) h.within }
+  pub within_rem : Within A (rem_z x y)
+  within_rem = record { within = le_trans (abs_rem x y) h.within }
 
 -- a signed width holds what is below half its power
-pub within-fits : (w : Width) {A : ℕ} {x : ℤ} → A < 2 ^ hbits w → Within A x → SFits w x
-within-fits w {A} {x} l h = record { sfits = omega (arith, mag-abs x, h.within) }
+pub within_fits : (w : Width) {A : ℕ} {x : ℤ} → A < 2 ^ hbits w → Within A x → SFits w x
+within_fits w {A} {x} l h = record { sfits = omega (arith, mag_abs x, h.within) }

@@ -9,8 +9,8 @@ abbrev pub double : ℤ → Float
 double z = of_int binary64 z
 
 -- 0.0 as the code has it
-abbrev pub plusZero : Float
-plusZero = of_bits binary64 0
+abbrev pub plus_zero : Float
+plus_zero = of_bits binary64 0
 
 -- ±n
 abbrev pub signed : Bool → ℕ → ℤ
@@ -27,4 +27,4 @@ pub record Holds (x : Float) (z : ℤ) : Type 0 where
 -- x has exactly the value z, and its zero is plus zero
 pub record Exactly (x : Float) (z : ℤ) : Type 0 where
   pub value : Holds x z
-  pub zero : z ≡ pos 0 → x ≡ plusZero
+  pub zero : z ≡ pos 0 → x ≡ plus_zero

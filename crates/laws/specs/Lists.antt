@@ -26,9 +26,9 @@ first q [] = none
 first q (x ∷ l) = elim (q x) [ true ↦ some x | false ↦ first q l ]
 
 -- its place, the list's first element being number i
-abbrev pub firstFrom : {A : Type 0} → (A → Bool) → ℕ → List A → Option ℕ
-firstFrom q i [] = none
-firstFrom q i (x ∷ l) = elim (q x) [ true ↦ some i | false ↦ firstFrom q (suc i) l ]
+abbrev pub first_from : {A : Type 0} → (A → Bool) → ℕ → List A → Option ℕ
+first_from q i [] = none
+first_from q i (x ∷ l) = elim (q x) [ true ↦ some i | false ↦ first_from q (suc i) l ]
 
 -- what that says: element number i passes, and none before it
 pub record FirstAt {A : Type 0} (q : A → Bool) (d : A) (l : List A) (i : ℕ) : Type 0 where
@@ -47,9 +47,9 @@ lesser a none = a
 lesser a (some b) = cond (lt_z b.value a.value) b a
 
 -- the element with the least g, the first of equals, the list's first element being number i
-abbrev pub leastFrom : {A : Type 0} → (A → ℤ) → ℕ → List A → Option Least
-leastFrom g i [] = none
-leastFrom g i (x ∷ l) = some (lesser (record { place = i; value = g x }) (leastFrom g (suc i) l))
+abbrev pub least_from : {A : Type 0} → (A → ℤ) → ℕ → List A → Option Least
+least_from g i [] = none
+least_from g i (x ∷ l) = some (lesser (record { place = i; value = g x }) (least_from g (suc i) l))
 
 -- what that says: element number i has g at v, at most that of every element, and less than that of every element before it
 pub record LeastAt {A : Type 0} (g : A → ℤ) (d : A) (l : List A) (i : ℕ) (v : ℤ) : Type 0 where
@@ -82,9 +82,9 @@ Pw {A} R (x ∷ l) = ((y : A) → In y l → R x y) × Pw R l
 abbrev pub Nodup : {A : Type 0} → List A → Type 0
 Nodup l = Pw (λ x y. x ≢ y) l
 
-abbrev pub sumZ : {A : Type 0} → (A → ℤ) → List A → ℤ
-sumZ g [] = pos 0
-sumZ g (x ∷ l) = g x +ℤ sumZ g l
+abbrev pub sum_z : {A : Type 0} → (A → ℤ) → List A → ℤ
+sum_z g [] = pos 0
+sum_z g (x ∷ l) = g x +ℤ sum_z g l
 
 -- new written over old from place at on, the rest of old as it was
 unfoldable pub lay : {A : Type 0} → ℕ → List A → List A → List A

@@ -5,8 +5,8 @@ use Rattle.std.specs.Prelude.{ℕ, ◌≤◌, Bool, false, eqb, ℤ, pos, negsuc
 pub record Within (B : ℕ) (z : ℤ) : Type 0 where
   pub within : nat_abs z ≤ B
 
-abbrev pub eqZ : ℤ → ℤ → Bool
-eqZ (pos a) (pos b) = eqb a b
-eqZ (pos a) (negsuc b) = false
-eqZ (negsuc a) (pos b) = false
-eqZ (negsuc a) (negsuc b) = eqb a b
+abbrev pub eq_z : ℤ → ℤ → Bool
+eq_z (pos a) (pos b) = eqb a b
+eq_z (pos a) (negsuc b) = false
+eq_z (negsuc a) (pos b) = false
+eq_z (negsuc a) (negsuc b) = eqb a b

@@ -9,44 +9,44 @@ use lib.Seq.{take-suc}
 use Rattle.laws.specs.Lists.{lay, Laid}
 use Rattle.laws.proofs.Tables.{laid_then}
 use Rattle.rules.specs.Faces.{Face}
-use Rattle.table.specs.Table.{room, numbers, lent, faceAt, facesIn}
-use Rattle.table.proofs.TableLaws.{length-faces, face-at}
-use Rattle.table.proofs.LentLaws.{room-laid, faces-laid}
-use Rattle.lister.specs.Listing.{faceLine, faceLines}
+use Rattle.table.specs.Table.{room, numbers, lent, face_at, faces_in}
+use Rattle.table.proofs.TableLaws.{length_faces, face_at_lem}
+use Rattle.table.proofs.LentLaws.{room_laid, faces_laid}
+use Rattle.lister.specs.Listing.{face_line, face_lines}
 
-lines-append : (g h : List Face) → faceLines (g ++ h) ≡ faceLines g ++ faceLines h
-unfolding faceLines
-lines-append [] h = refl
-lines-append (f ∷ g) h = ap (λ (t : List ℕ). faceLine f ++ t) (lines-append g h) ∙ sym (append_assoc (faceLine f) (faceLines g) (faceLines h))
+lines_append : (g h : List Face) → face_lines (g ++ h) ≡ face_lines g ++ face_lines h
+unfolding face_lines
+lines_append [] h = refl
+lines_append (f ∷ g) h = ap (λ (t : List ℕ). face_line f ++ t) (lines_append g h) ∙ sym (append_assoc (face_line f) (face_lines g) (face_lines h))
 
-pub lines_none : faceLines [] ≡ []
-unfolding faceLines
+pub lines_none : face_lines [] ≡ []
+unfolding face_lines
 lines_none = refl
 
-lines-one : (f : Face) → faceLines (f ∷ []) ≡ faceLine f
-unfolding faceLines
-lines-one f = simp append-nil
+lines_one : (f : Face) → face_lines (f ∷ []) ≡ face_line f
+unfolding face_lines
+lines_one f = simp append-nil
 
 -- the next face's line
-pub laid_next : {start at r : ℕ} {old mid after : List ℕ} (t : List ℕ) (i : ℕ) {f : Face} → i < room t → f ≡ faceAt t i → start ≤ length old
-    → Laid start (faceLines (take i (facesIn t))) old at mid → Laid at (faceLine f) mid r after → Laid start (faceLines (take (i + 1) (facesIn t))) old r after
+pub laid_next : {start at r : ℕ} {old mid after : List ℕ} (t : List ℕ) (i : ℕ) {f : Face} → i < room t → f ≡ face_at t i → start ≤ length old
+    → Laid start (face_lines (take i (faces_in t))) old at mid → Laid at (face_line f) mid r after → Laid start (face_lines (take (i + 1) (faces_in t))) old r after
 laid_next t i {f} h e b p q =
-    let n : i < length (facesIn t) = omega (arith, length-faces t) in
-    let g = take i (facesIn t) in
-    let line : faceLines (get_or (facesIn t) i [] ∷ []) ≡ faceLine f = lines-one (get_or (facesIn t) i []) ∙ ap faceLine (face-at t i h ∙ sym e) in
-    let more : faceLines (take (i + 1) (facesIn t)) ≡ faceLines g ++ faceLine f = rw (add-one, take-suc (facesIn t) i [] n, lines-append g (get_or (facesIn t) i [] ∷ []), line) in
+    let n : i < length (faces_in t) = omega (arith, length_faces t) in
+    let g = take i (faces_in t) in
+    let line : face_lines (get_or (faces_in t) i [] ∷ []) ≡ face_line f = lines_one (get_or (faces_in t) i []) ∙ ap face_line (face_at_lem t i h ∙ sym e) in
+    let more : face_lines (take (i + 1) (faces_in t)) ≡ face_lines g ++ face_line f = rw (add-one, take-suc (faces_in t) i [] n, lines_append g (get_or (faces_in t) i [] ∷ []), line) in
     rw more (laid_then p b q)
 
 -- ---- the faces of a table that building wrote
 -- a line shows corners only
-lines-numbers : (h : List Face) → faceLines (map numbers h) ≡ faceLines h
-unfolding faceLines
-lines-numbers [] = refl
-lines-numbers (f ∷ h) = ap (λ (t : List ℕ). faceLine f ++ t) (lines-numbers h)
+lines_numbers : (h : List Face) → face_lines (map numbers h) ≡ face_lines h
+unfolding face_lines
+lines_numbers [] = refl
+lines_numbers (f ∷ h) = ap (λ (t : List ℕ). face_line f ++ t) (lines_numbers h)
 
 module _ (h : List Face) (old : List ℕ) {n : ℕ} {after : List ℕ} (count : n ≡ length h) (is : after ≡ lay 0 (lent h) old) where
   pub room_after : n ≤ room after
-  room_after = rw (count, is) (room-laid h old)
+  room_after = rw (count, is) (room_laid h old)
 
-  pub lines_after : faceLines (take n (facesIn after)) ≡ faceLines h
-  lines_after = rw (count, is) (ap faceLines (faces-laid h old) ∙ lines-numbers h)
+  pub lines_after : face_lines (take n (faces_in after)) ≡ face_lines h
+  lines_after = rw (count, is) (ap face_lines (faces_laid h old) ∙ lines_numbers h)

@@ -4,22 +4,22 @@ use Prim.Native.Nat.{ℕ, ◌+◌, ◌<◌, ◌≤◌}
 use native.Mathlib.Omega.{arith}
 use lib.ListN.{length, set}
 use Rattle.laws.specs.Lists.{Laid}
-use Rattle.laws.proofs.Tables.{length-laid, laid_one, laid_then}
+use Rattle.laws.proofs.Tables.{length_laid, laid_one, laid_then}
 use Rattle.text.specs.Room.{Put}
-use Rattle.text.proofs.RoomLaws.{put-laid}
+use Rattle.text.proofs.RoomLaws.{put_laid}
 
 module _ {at r : ℕ} {new old mid : List ℕ} (k : ℕ) (few : length new ≤ k) (room : at + (k + 1) ≤ length old) (p : Put at new old r mid) where
   fits : at + length new ≤ length old
   fits = omega arith
 
   laid : Laid at new old r mid
-  laid = put-laid fits p
+  laid = put_laid fits p
 
-  pub field-short : r ≤ at + k
-  field-short = omega (arith, laid.next)
+  pub field_short : r ≤ at + k
+  field_short = omega (arith, laid.next)
 
-  pub field-inside : r < length mid
-  field-inside = omega (arith, laid.next, length-laid laid fits)
+  pub field_inside : r < length mid
+  field_inside = omega (arith, laid.next, length_laid laid fits)
 
-  pub field-laid : (x : ℕ) → Laid at (new ++ (x ∷ [])) old (r + 1) (set mid r x)
-  field-laid x = laid_then laid (omega arith) (laid_one r x mid field-inside)
+  pub field_laid : (x : ℕ) → Laid at (new ++ (x ∷ [])) old (r + 1) (set mid r x)
+  field_laid x = laid_then laid (omega arith) (laid_one r x mid field_inside)

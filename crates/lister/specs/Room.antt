@@ -1,21 +1,21 @@
 -- Room for the longest listing. A 16-bit number has at most five digits, the volume's text at most twenty bytes.
 use Rattle.std.specs.Prelude.{ℕ, ◌+◌, ◌*◌}
-use Rattle.touches.specs.Limits.{mostTouches}
+use Rattle.touches.specs.Limits.{most_touches}
 use Rattle.cover.specs.Room.{enough}
 
 -- a number or the volume, with the byte after it
-abbrev pub fieldRoom : ℕ
-fieldRoom = 6
+abbrev pub field_room : ℕ
+field_room = 6
 
-abbrev pub volumeRoom : ℕ
-volumeRoom = 21
+abbrev pub volume_room : ℕ
+volume_room = 21
 
 -- the line of a face, and the first line
-abbrev pub faceRoom : ℕ
-faceRoom = 3 * fieldRoom
+abbrev pub face_room : ℕ
+face_room = 3 * field_room
 
-abbrev pub firstRoom : ℕ
-firstRoom = 5 + fieldRoom + volumeRoom
+abbrev pub first_room : ℕ
+first_room = 5 + field_room + volume_room
 
-abbrev pub listingRoom : ℕ
-listingRoom = firstRoom + enough mostTouches * faceRoom
+abbrev pub listing_room : ℕ
+listing_room = first_room + enough most_touches * face_room

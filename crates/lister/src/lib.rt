@@ -2,11 +2,11 @@
 ghost use Rattle.std.specs.Prelude.{◌≡◌, [], ◌∷◌, ◌++◌, ◌+◌, ◌*◌, ◌<◌, ◌≤◌, length, take};
 ghost use Rattle.laws.specs.Lists.{Laid};
 ghost use Rattle.touches.specs.Touches.{plain};
-ghost use Rattle.table.specs.Table.{room, facesIn};
+ghost use Rattle.table.specs.Table.{room, faces_in};
 ghost use Rattle.text.specs.Decimal.{decimal, whole, newline};
 ghost use Rattle.text.specs.Room.{Put, Front};
-ghost use Rattle.lister.specs.Listing.{hullLine, refusedLine, faceLine, faceLines, hullText, listing};
-ghost use Rattle.lister.specs.Room.{fieldRoom, volumeRoom, faceRoom, firstRoom, listingRoom};
+ghost use Rattle.lister.specs.Listing.{hull_line, refused_line, face_line, face_lines, hull_text, listing};
+ghost use Rattle.lister.specs.Room.{field_room, volume_room, face_room, first_room, listing_room};
 
 use hull::build::Built;
 use records::ReadAnswer;
@@ -27,9 +27,9 @@ fn put_word(out: &mut [u8], word: &[u8]) -> usize
 
 // A count, a refusal's number or a touch number, and the space or newline after it.
 fn put_field(out: &mut [u8], at: usize, n: u16, after: u8) -> usize
-    requires { at + fieldRoom ≤ length out.old }
+    requires { at + field_room ≤ length out.old }
     ensures laid { Laid at (decimal n ++ (after ∷ [])) out.old result out.new }
-    ensures short { result ≤ at + fieldRoom }
+    ensures short { result ≤ at + field_room }
 {
     let next = text::put_decimal(out, at, n as u64);
     out[next] = after;
@@ -37,9 +37,9 @@ fn put_field(out: &mut [u8], at: usize, n: u16, after: u8) -> usize
 }
 
 fn put_volume(out: &mut [u8], at: usize, v: i64) -> usize
-    requires { at + volumeRoom ≤ length out.old }
+    requires { at + volume_room ≤ length out.old }
     ensures laid { Laid at (whole v ++ (newline ∷ [])) out.old result out.new }
-    ensures short { result ≤ at + volumeRoom }
+    ensures short { result ≤ at + volume_room }
 {
     let next = text::put_whole(out, at, v);
     out[next] = b'\n';
@@ -47,8 +47,8 @@ fn put_volume(out: &mut [u8], at: usize, v: i64) -> usize
 }
 
 fn put_refused(out: &mut [u8], x: Refusal) -> usize
-    requires { firstRoom ≤ length out.old }
-    ensures { Laid 0 (refusedLine x) out.old result out.new }
+    requires { first_room ≤ length out.old }
+    ensures { Laid 0 (refused_line x) out.old result out.new }
 {
     let place = x.place.0;
     let a = put_word(out, b"refused ");
@@ -57,9 +57,9 @@ fn put_refused(out: &mut [u8], x: Refusal) -> usize
 }
 
 fn put_hull(out: &mut [u8], n: u16, v: i64) -> usize
-    requires { firstRoom ≤ length out.old }
-    ensures laid { Laid 0 (hullLine n v) out.old result out.new }
-    ensures short { result ≤ firstRoom }
+    requires { first_room ≤ length out.old }
+    ensures laid { Laid 0 (hull_line n v) out.old result out.new }
+    ensures short { result ≤ first_room }
 {
     let a = put_word(out, b"hull ");
     let b = put_field(out, a, n, b' ');
@@ -67,9 +67,9 @@ fn put_hull(out: &mut [u8], n: u16, v: i64) -> usize
 }
 
 fn put_face(out: &mut [u8], at: usize, f: [TouchNo; 3]) -> usize
-    requires { at + faceRoom ≤ length out.old }
-    ensures laid { Laid at (faceLine (plain f)) out.old result out.new }
-    ensures short { result ≤ at + faceRoom }
+    requires { at + face_room ≤ length out.old }
+    ensures laid { Laid at (face_line (plain f)) out.old result out.new }
+    ensures short { result ≤ at + face_room }
 {
     let a = put_field(out, at, f[0].0, b' ');
     let b = put_field(out, a, f[1].0, b' ');
@@ -78,8 +78,8 @@ fn put_face(out: &mut [u8], at: usize, f: [TouchNo; 3]) -> usize
 
 // A line for each of the first n faces.
 fn put_faces(out: &mut [u8], start: usize, faces: &[u16], n: u16) -> usize
-    requires { (n ≤ room faces.now) × (start + n * faceRoom ≤ length out.old) }
-    ensures { Laid start (faceLines (take n (facesIn faces.now))) out.old result out.new }
+    requires { (n ≤ room faces.now) × (start + n * face_room ≤ length out.old) }
+    ensures { Laid start (face_lines (take n (faces_in faces.now))) out.old result out.new }
 {
     let mut at = start;
     let mut i: u16 = 0;
@@ -92,8 +92,8 @@ fn put_faces(out: &mut [u8], start: usize, faces: &[u16], n: u16) -> usize
 
 // The hull of the touches, or why there is none.
 fn put_built(out: &mut [u8], coords: &[i32]) -> usize
-    requires { length out.old ≡ listingRoom }
-    ensures { Laid 0 (hullText coords.now) out.old result out.new }
+    requires { length out.old ≡ listing_room }
+    ensures { Laid 0 (hull_text coords.now) out.old result out.new }
 {
     let mut faces = [0u16; table::ENOUGH];
     match hull::build::build(coords, &mut faces) {
@@ -106,7 +106,7 @@ fn put_built(out: &mut [u8], coords: &[i32]) -> usize
 }
 
 fn put_listing(out: &mut [u8], bytes: &[u8]) -> usize
-    requires { length out.old ≡ listingRoom }
+    requires { length out.old ≡ listing_room }
     ensures { Laid 0 (listing bytes.now) out.old result out.new }
 {
     if MOST_BYTES < bytes.len() {
@@ -125,7 +125,7 @@ fn put_listing(out: &mut [u8], bytes: &[u8]) -> usize
 // The listing of a record into the lent text: how many bytes it is, or 0 where there is no room for it all. There always is in ROOM bytes.
 pub fn list(bytes: &[u8], text: &mut [u8]) -> usize
     ensures text { Put 0 (listing bytes.now) text.old result text.new }
-    ensures room { length (listing bytes.now) ≤ listingRoom }
+    ensures room { length (listing bytes.now) ≤ listing_room }
     ensures front { Front result text.new }
 {
     let mut out = [0u8; ROOM];

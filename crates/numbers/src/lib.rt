@@ -1,7 +1,7 @@
 // Each answer taken apart into numbers, for callers in other languages.
 ghost use Rattle.std.specs.Prelude.{◌≡◌, pos};
-ghost use Rattle.planes.specs.Planes.{planedRefusal, planedPlane, readingRefusal, readingValue};
-ghost use Rattle.numbers.specs.Numbers.{numbers, builtNumbers, placedNumbers, planeNumbers, plumbedNumbers, plumbedHeights, one};
+ghost use Rattle.planes.specs.Planes.{planed_refusal, planed_plane, reading_refusal, reading_value};
+ghost use Rattle.numbers.specs.Numbers.{numbers, built_numbers, placed_numbers, plane_numbers, plumbed_numbers, plumbed_heights, one};
 
 use hull::build::Built;
 use hull::place::Placed;
@@ -33,7 +33,7 @@ fn said(r: Refusal) -> [i64; 2]
 
 // Then the face count and the volume.
 pub fn built_numbers(a: Built) -> [i64; 4]
-    ensures { result ≡ builtNumbers a }
+    ensures { result ≡ built_numbers a }
 {
     match a {
         Built::Hull(n, v) => [0, 0, wide16(n), v],
@@ -47,7 +47,7 @@ pub fn built_numbers(a: Built) -> [i64; 4]
 
 // Then the kind, 0 refused, 1 outside, 2 on, 3 inside, counted apart from the refusals; the face; and minus its V, outside alone.
 pub fn placed_numbers(a: Placed) -> [i64; 5]
-    ensures { result ≡ placedNumbers a }
+    ensures { result ≡ placed_numbers a }
 {
     match a {
         Placed::Outside(f, d) => [0, 0, 1, wide16(f.0), d],
@@ -62,7 +62,7 @@ pub fn placed_numbers(a: Placed) -> [i64; 5]
 }
 
 pub fn planed_said(a: Planed) -> [i64; 2]
-    ensures { result ≡ numbers (planedRefusal a) }
+    ensures { result ≡ numbers (planed_refusal a) }
 {
     match a {
         Planed::Of(_) => [0, 0],
@@ -71,7 +71,7 @@ pub fn planed_said(a: Planed) -> [i64; 2]
 }
 
 pub fn plane_numbers(a: Planed) -> [f64; 4]
-    ensures { result ≡ planeNumbers (planedPlane a) }
+    ensures { result ≡ plane_numbers (planed_plane a) }
 {
     match a {
         Planed::Of(p) => [p.x, p.y, p.z, p.offset],
@@ -80,7 +80,7 @@ pub fn plane_numbers(a: Planed) -> [f64; 4]
 }
 
 pub fn reading_said(a: Reading) -> [i64; 2]
-    ensures { result ≡ numbers (readingRefusal a) }
+    ensures { result ≡ numbers (reading_refusal a) }
 {
     match a {
         Reading::Of(_) => [0, 0],
@@ -89,7 +89,7 @@ pub fn reading_said(a: Reading) -> [i64; 2]
 }
 
 pub fn reading_number(a: Reading) -> [f64; 1]
-    ensures { result ≡ one (readingValue a) }
+    ensures { result ≡ one (reading_value a) }
 {
     match a {
         Reading::Of(v) => [v],
@@ -99,7 +99,7 @@ pub fn reading_number(a: Reading) -> [f64; 1]
 
 // Then the kind, 0 refused, 1 misses, 2 touches, 3 goes through: counted apart from the refusals, and from where a place lies.
 pub fn plumbed_numbers(a: Plumbed) -> [i64; 3]
-    ensures { result ≡ plumbedNumbers a }
+    ensures { result ≡ plumbed_numbers a }
 {
     match a {
         Plumbed::Misses => [0, 0, 1],
@@ -115,7 +115,7 @@ pub fn plumbed_numbers(a: Plumbed) -> [i64; 3]
 
 // The heights of entry and exit.
 pub fn plumbed_heights(a: Plumbed) -> [f64; 2]
-    ensures { result ≡ plumbedHeights a }
+    ensures { result ≡ plumbed_heights a }
 {
     match a {
         Plumbed::Misses => [0.0, 0.0],

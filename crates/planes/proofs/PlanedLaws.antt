@@ -13,90 +13,90 @@ use Rattle.touches.specs.declared.Refusal.{Refusal}
 use Rattle.touches.specs.declared.TouchList.{TouchList}
 use Rattle.touches.specs.declared.Checked.{Checked}
 use Rattle.touches.specs.declared.Checked.TheVariants.{Accepted, Refused as CheckedRefused}
-use Rattle.touches.specs.Touches.{touch, touchCount, Near}
-use Rattle.touches.specs.Refusals.{noSuchFace, placeOutOfRange, because}
-use Rattle.touches.specs.Check.{pick, checked, ifAccepted}
-use Rattle.touches.proofs.SoundLaws.{accepted-sound, touch-near}
-use Rattle.touches.specs.Limits.{placeInRange}
-use Rattle.volume.specs.Volume.{Vol, inLine}
+use Rattle.touches.specs.Touches.{touch, touch_count, Near}
+use Rattle.touches.specs.Refusals.{no_such_face, place_out_of_range, because}
+use Rattle.touches.specs.Check.{pick, checked, if_accepted}
+use Rattle.touches.proofs.SoundLaws.{accepted_sound, touch_near}
+use Rattle.touches.specs.Limits.{place_in_range}
+use Rattle.volume.specs.Volume.{Vol, in_line}
 use Rattle.planes.specs.declared.Plane.{Plane}
 use Rattle.planes.specs.declared.Planed.TheVariants.{Of, Refused}
 use Rattle.planes.specs.declared.Reading.{Reading}
 use Rattle.planes.specs.declared.Reading.TheVariants.{Of as Reads, Refused as ReadingRefused}
 use Rattle.laws.specs.Doubles.{double}
-use Rattle.planes.specs.Planes.{planeOf, isTouch, goodCorners, facePlane, planed, planeReading}
+use Rattle.planes.specs.Planes.{plane_of, is_touch, good_corners, face_plane, planed, plane_reading}
 
 -- ---- refusal 6
 module _ (cs : List ℤ) (a b c : ℕ) where
-  pub bad-a : touchCount cs ≤ a → goodCorners cs a b c ≡ false
-  unfolding goodCorners
-  bad-a h = simp (le-ltb a (touchCount cs) h)
+  pub bad_a : touch_count cs ≤ a → good_corners cs a b c ≡ false
+  unfolding good_corners
+  bad_a h = simp (le-ltb a (touch_count cs) h)
 
-  pub bad-b : a < touchCount cs → touchCount cs ≤ b → goodCorners cs a b c ≡ false
-  unfolding goodCorners
-  bad-b h k = simp (lt-ltb a (touchCount cs) h, le-ltb b (touchCount cs) k)
+  pub bad_b : a < touch_count cs → touch_count cs ≤ b → good_corners cs a b c ≡ false
+  unfolding good_corners
+  bad_b h k = simp (lt-ltb a (touch_count cs) h, le-ltb b (touch_count cs) k)
 
-  pub bad-c : a < touchCount cs → b < touchCount cs → touchCount cs ≤ c → goodCorners cs a b c ≡ false
-  unfolding goodCorners
-  bad-c h k l = simp (lt-ltb a (touchCount cs) h, lt-ltb b (touchCount cs) k, le-ltb c (touchCount cs) l)
+  pub bad_c : a < touch_count cs → b < touch_count cs → touch_count cs ≤ c → good_corners cs a b c ≡ false
+  unfolding good_corners
+  bad_c h k l = simp (lt-ltb a (touch_count cs) h, lt-ltb b (touch_count cs) k, le-ltb c (touch_count cs) l)
 
-  pub by-line : a < touchCount cs → b < touchCount cs → c < touchCount cs → (t : Bool) → inLine (touch cs a) (touch cs b) (touch cs c) ≡ t → goodCorners cs a b c ≡ not t
-  unfolding goodCorners
-  by-line h k l t e = simp (lt-ltb a (touchCount cs) h, lt-ltb b (touchCount cs) k, lt-ltb c (touchCount cs) l, e)
+  pub by_line : a < touch_count cs → b < touch_count cs → c < touch_count cs → (t : Bool) → in_line (touch cs a) (touch cs b) (touch cs c) ≡ t → good_corners cs a b c ≡ not t
+  unfolding good_corners
+  by_line h k l t e = simp (lt-ltb a (touch_count cs) h, lt-ltb b (touch_count cs) k, lt-ltb c (touch_count cs) l, e)
 
-  pub refused-6 : goodCorners cs a b c ≡ false → Refused (because noSuchFace) ≡ facePlane cs a b c
-  refused-6 e = simp e
+  pub refused_6 : good_corners cs a b c ≡ false → Refused (because no_such_face) ≡ face_plane cs a b c
+  refused_6 e = simp e
 
-  pub plane-6 : goodCorners cs a b c ≡ true → Of (planeOf (touch cs a) (touch cs b) (touch cs c)) ≡ facePlane cs a b c
-  plane-6 e = simp e
+  pub plane_6 : good_corners cs a b c ≡ true → Of (plane_of (touch cs a) (touch cs b) (touch cs c)) ≡ face_plane cs a b c
+  plane_6 e = simp e
 
 -- ---- from the plane's answer to the reading's
 abbrev pub at : List ℤ → ℕ → ℕ → ℕ → Point → Reading
-at cs a b c q = pick (placeInRange q) (Reads (double (neg_ℤ (Vol (touch cs a) (touch cs b) (touch cs c) q)))) (ReadingRefused (because placeOutOfRange))
+at cs a b c q = pick (place_in_range q) (Reads (double (neg_ℤ (Vol (touch cs a) (touch cs b) (touch cs c) q)))) (ReadingRefused (because place_out_of_range))
 
 module _ (cs : List ℤ) (a b c : ℕ) (q : Point) where
-  pub out-of-place : placeInRange q ≡ false → ReadingRefused (because placeOutOfRange) ≡ at cs a b c q
-  out-of-place e = simp e
+  pub out_of_place : place_in_range q ≡ false → ReadingRefused (because place_out_of_range) ≡ at cs a b c q
+  out_of_place e = simp e
 
-  pub in_place : placeInRange q ≡ true → Reads (double (neg_ℤ (Vol (touch cs a) (touch cs b) (touch cs c) q))) ≡ at cs a b c q
+  pub in_place : place_in_range q ≡ true → Reads (double (neg_ℤ (Vol (touch cs a) (touch cs b) (touch cs c) q))) ≡ at cs a b c q
   in_place e = simp e
 
 pub record Known (cs : List ℤ) (a b c : ℕ) (p : Plane) : Type 0 where
-  pub near-a : Near (touch cs a)
-  pub near-b : Near (touch cs b)
-  pub near-c : Near (touch cs c)
-  pub is : p ≡ planeOf (touch cs a) (touch cs b) (touch cs c)
-  pub reading : (q : Point) → at cs a b c q ≡ planeReading cs a b c q
+  pub near_a : Near (touch cs a)
+  pub near_b : Near (touch cs b)
+  pub near_c : Near (touch cs c)
+  pub is : p ≡ plane_of (touch cs a) (touch cs b) (touch cs c)
+  pub reading : (q : Point) → at cs a b c q ≡ plane_reading cs a b c q
 
 module _ (cs : List ℤ) (a b c : ℕ) where
-  corners-in : goodCorners cs a b c ≡ true → (a < touchCount cs) × (b < touchCount cs) × (c < touchCount cs)
-  unfolding goodCorners
-  corners-in e =
-      let n = not (inLine (touch cs a) (touch cs b) (touch cs c)) in
-      let x = and_both (isTouch cs a) (isTouch cs b && (isTouch cs c && n)) (T_of e) in
-      let y = and_both (isTouch cs b) (isTouch cs c && n) x.1 in
-      let z = and_both (isTouch cs c) n y.1 in
-      (ltb→lt a (touchCount cs) x.0, ltb→lt b (touchCount cs) y.0, ltb→lt c (touchCount cs) z.0)
+  corners_in : good_corners cs a b c ≡ true → (a < touch_count cs) × (b < touch_count cs) × (c < touch_count cs)
+  unfolding good_corners
+  corners_in e =
+      let n = not (in_line (touch cs a) (touch cs b) (touch cs c)) in
+      let x = and_both (is_touch cs a) (is_touch cs b && (is_touch cs c && n)) (T_of e) in
+      let y = and_both (is_touch cs b) (is_touch cs c && n) x.1 in
+      let z = and_both (is_touch cs c) n y.1 in
+      (ltb→lt a (touch_count cs) x.0, ltb→lt b (touch_count cs) y.0, ltb→lt c (touch_count cs) z.0)
 
-  pub planed-known : (p : Plane) → planed cs a b c ≡ Of p → Known cs a b c p
-  planed-known p e = list (checked cs) refl e
+  pub planed_known : (p : Plane) → planed cs a b c ≡ Of p → Known cs a b c p
+  planed_known p e = list (checked cs) refl e
     where
-      corners : (l : TouchList) → checked cs ≡ Accepted l → (t : Bool) → goodCorners cs a b c ≡ t → pick t (Of (planeOf (touch cs a) (touch cs b) (touch cs c))) (Refused (because noSuchFace)) ≡ Of p → Known cs a b c p
-      corners l h true g e = let s = (accepted-sound cs l h).sound in let i = corners-in g in
-          record { near-a = touch-near s a i.0; near-b = touch-near s b i.1; near-c = touch-near s c i.2; is = cc; reading = λ q. simp (h, g) }
+      corners : (l : TouchList) → checked cs ≡ Accepted l → (t : Bool) → good_corners cs a b c ≡ t → pick t (Of (plane_of (touch cs a) (touch cs b) (touch cs c))) (Refused (because no_such_face)) ≡ Of p → Known cs a b c p
+      corners l h true g e = let s = (accepted_sound cs l h).sound in let i = corners_in g in
+          record { near_a = touch_near s a i.0; near_b = touch_near s b i.1; near_c = touch_near s c i.2; is = cc; reading = λ q. simp (h, g) }
       corners l h false g e = let z : ◌≡◌ {A = ℕ} 0 1 = cc in absurd (omega arith)
 
-      list : (k : Checked) → checked cs ≡ k → ifAccepted k Refused (facePlane cs a b c) ≡ Of p → Known cs a b c p
-      list (Accepted l) h e = corners l h (goodCorners cs a b c) refl e
+      list : (k : Checked) → checked cs ≡ k → if_accepted k Refused (face_plane cs a b c) ≡ Of p → Known cs a b c p
+      list (Accepted l) h e = corners l h (good_corners cs a b c) refl e
       list (CheckedRefused r) h e = let z : ◌≡◌ {A = ℕ} 0 1 = cc in absurd (omega arith)
 
-  pub planed-refused : (r : Refusal) → planed cs a b c ≡ Refused r → (q : Point) → ReadingRefused r ≡ planeReading cs a b c q
-  planed-refused r e q = list (checked cs) e
+  pub planed_refused : (r : Refusal) → planed cs a b c ≡ Refused r → (q : Point) → ReadingRefused r ≡ plane_reading cs a b c q
+  planed_refused r e q = list (checked cs) e
     where
-      corners : (t : Bool) → pick t (Of (planeOf (touch cs a) (touch cs b) (touch cs c))) (Refused (because noSuchFace)) ≡ Refused r → ReadingRefused r ≡ pick t (at cs a b c q) (ReadingRefused (because noSuchFace))
+      corners : (t : Bool) → pick t (Of (plane_of (touch cs a) (touch cs b) (touch cs c))) (Refused (because no_such_face)) ≡ Refused r → ReadingRefused r ≡ pick t (at cs a b c q) (ReadingRefused (because no_such_face))
       corners true e = let z : ◌≡◌ {A = ℕ} 0 1 = cc in absurd (omega arith)
       corners false e = cc
 
-      list : (k : Checked) → ifAccepted k Refused (facePlane cs a b c) ≡ Refused r → ReadingRefused r ≡ ifAccepted k ReadingRefused (pick (goodCorners cs a b c) (at cs a b c q) (ReadingRefused (because noSuchFace)))
-      list (Accepted l) e = corners (goodCorners cs a b c) e
+      list : (k : Checked) → if_accepted k Refused (face_plane cs a b c) ≡ Refused r → ReadingRefused r ≡ if_accepted k ReadingRefused (pick (good_corners cs a b c) (at cs a b c q) (ReadingRefused (because no_such_face)))
+      list (Accepted l) e = corners (good_corners cs a b c) e
       list (CheckedRefused k) e = cc

@@ -1,9 +1,9 @@
 // The plane of a face as four doubles, and its reading at a place.
 ghost use Rattle.std.specs.Prelude.{◌≡◌, ◌<◌, neg_ℤ};
-ghost use Rattle.touches.specs.Touches.{Near, Sound, touchCount};
+ghost use Rattle.touches.specs.Touches.{Near, Sound, touch_count};
 ghost use Rattle.volume.specs.Volume.{Vol};
 ghost use Rattle.laws.specs.Doubles.{double};
-ghost use Rattle.planes.specs.Planes.{planeOf, facePlane, planed, planeReading};
+ghost use Rattle.planes.specs.Planes.{plane_of, face_plane, planed, plane_reading};
 
 use points::doubles::{in_doubles, normal};
 use points::touch::touch;
@@ -33,7 +33,7 @@ pub enum Reading {
 
 fn plane_through(a: Point, b: Point, c: Point) -> Plane
     requires { Near a × Near b × Near c }
-    ensures { result ≡ planeOf a b c }
+    ensures { result ≡ plane_of a b c }
 {
     let o = in_doubles(a);
     let n = normal(o, in_doubles(b), in_doubles(c));
@@ -47,7 +47,7 @@ fn plane_through(a: Point, b: Point, c: Point) -> Plane
 // Normal dot q minus the offset: minus V where p is the plane of a face.
 fn read_at(p: Plane, q: Point) -> f64
     requires { Near q }
-    ensures { (a b c : Point) → Near a → Near b → Near c → p ≡ planeOf a b c → result ≡ double (neg_ℤ (Vol a b c q)) }
+    ensures { (a b c : Point) → Near a → Near b → Near c → p ≡ plane_of a b c → result ≡ double (neg_ℤ (Vol a b c q)) }
 {
     let s = in_doubles(q);
     p.x * s.x + p.y * s.y + p.z * s.z - p.offset + 0.0
@@ -55,8 +55,8 @@ fn read_at(p: Plane, q: Point) -> f64
 
 // The plane of three touches of a sound list, or refusal 6.
 fn face_plane(coords: &[i32], count: usize, a: TouchNo, b: TouchNo, c: TouchNo) -> Planed
-    requires { Sound coords.now × (count ≡ touchCount coords.now) }
-    ensures { result ≡ facePlane coords.now a.0 b.0 c.0 }
+    requires { Sound coords.now × (count ≡ touch_count coords.now) }
+    ensures { result ≡ face_plane coords.now a.0 b.0 c.0 }
 {
     let refused = Planed::Refused(Refusal::because(Refusal::NO_SUCH_FACE));
     if count <= a.0 as usize {
@@ -89,7 +89,7 @@ pub fn plane_of(coords: &[i32], a: TouchNo, b: TouchNo, c: TouchNo) -> Planed
 
 // What the plane of face (a, b, c) reads at q: exactly −V(a, b, c, q). Refusals 1, 2, 3, 6, 7.
 pub fn plane_reading(coords: &[i32], a: TouchNo, b: TouchNo, c: TouchNo, q: Point) -> Reading
-    ensures { result ≡ planeReading coords.now a.0 b.0 c.0 q }
+    ensures { result ≡ plane_reading coords.now a.0 b.0 c.0 q }
 {
     match plane_of(coords, a, b, c) {
         Planed::Refused(r) => Reading::Refused(r),

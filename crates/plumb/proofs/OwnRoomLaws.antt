@@ -9,51 +9,51 @@ use lib.ListN.{length}
 use Rattle.touches.specs.declared.Refusal.{Refusal}
 use Rattle.touches.specs.declared.Checked.{Checked}
 use Rattle.touches.specs.declared.Checked.TheVariants.{Accepted, Refused as CheckedRefused}
-use Rattle.touches.specs.Limits.{mostTouches}
+use Rattle.touches.specs.Limits.{most_touches}
 use Rattle.touches.specs.Touches.{touch, Sound}
-use Rattle.touches.specs.Check.{checked, ifAccepted}
-use Rattle.touches.proofs.SoundLaws.{accepted-sound}
+use Rattle.touches.specs.Check.{checked, if_accepted}
+use Rattle.touches.proofs.SoundLaws.{accepted_sound}
 use Rattle.rules.specs.Faces.{Face}
-use Rattle.rules.proofs.Theorems.{accepted-few}
+use Rattle.rules.proofs.Theorems.{accepted_few}
 use Rattle.cover.specs.Room.{enough}
-use Rattle.table.specs.Table.{stride, room, lent, firstFaces}
-use Rattle.table.proofs.LentLaws.{room-laid}
-use Rattle.hull.specs.Build.{hullOf, builtFrom, built, tableAfter}
+use Rattle.table.specs.Table.{stride, room, lent, first_faces}
+use Rattle.table.proofs.LentLaws.{room_laid}
+use Rattle.hull.specs.Build.{hull_of, built_from, built, table_after}
 use Rattle.hull.specs.declared.build.Built.{Built}
 use Rattle.hull.specs.declared.build.Built.TheVariants.{Hull, Refused}
-use Rattle.hull.proofs.BuildLaws.{room-enough}
+use Rattle.hull.proofs.BuildLaws.{room_enough}
 use Rattle.hull.proofs.Inversion.{inverted}
-use Rattle.plumb.specs.Plumb.{plumbedOver, plumbed}
+use Rattle.plumb.specs.Plumb.{plumbed_over, plumbed}
 use Rattle.plumb.specs.declared.Plumbed.TheVariants.{Refused as LineRefused}
 
 -- a refusal of building is the plumb line's
-pub own-refused : (cs : List ℤ) (old : List ℕ) → enough mostTouches ≤ room old → (x y : ℤ) {r : Refusal} → built cs old ≡ Refused r → LineRefused r ≡ plumbed cs x y
-own-refused cs old w x y {r} e = list (checked cs) refl e
+pub own_refused : (cs : List ℤ) (old : List ℕ) → enough most_touches ≤ room old → (x y : ℤ) {r : Refusal} → built cs old ≡ Refused r → LineRefused r ≡ plumbed cs x y
+own_refused cs old w x y {r} e = list (checked cs) refl e
   where
-    hull : Sound cs → (o : Option (List Face)) → hullOf cs ≡ o → builtFrom (touch cs) (room old) o ≡ Refused r → LineRefused r ≡ plumbedOver cs x y o
+    hull : Sound cs → (o : Option (List Face)) → hull_of cs ≡ o → built_from (touch cs) (room old) o ≡ Refused r → LineRefused r ≡ plumbed_over cs x y o
     hull d none i f = cc
     hull d (some h) i f =
-        let g = room-enough cs i (omega (arith, w, accepted-few d)) ∙ f in
+        let g = room_enough cs i (omega (arith, w, accepted_few d)) ∙ f in
         let z : ◌≡◌ {A = ℕ} 0 1 = cc in
         absurd (omega arith)
 
-    list : (k : Checked) → checked cs ≡ k → ifAccepted k Refused (builtFrom (touch cs) (room old) (hullOf cs)) ≡ Refused r → LineRefused r ≡ ifAccepted k LineRefused (plumbedOver cs x y (hullOf cs))
-    list (Accepted l) g f = hull (accepted-sound cs l g).sound (hullOf cs) refl f
+    list : (k : Checked) → checked cs ≡ k → if_accepted k Refused (built_from (touch cs) (room old) (hull_of cs)) ≡ Refused r → LineRefused r ≡ if_accepted k LineRefused (plumbed_over cs x y (hull_of cs))
+    list (Accepted l) g f = hull (accepted_sound cs l g).sound (hull_of cs) refl f
     list (CheckedRefused q) g f = cc
 
 -- the list is sound, and the table's first n faces are its hull
 pub record Filled (cs : List ℤ) (n : ℕ) (t : List ℕ) : Type 0 where
   pub sound : Sound cs
   pub faces : List Face
-  pub is : hullOf cs ≡ some faces
-  pub part : firstFaces n t ≡ lent faces
+  pub is : hull_of cs ≡ some faces
+  pub part : first_faces n t ≡ lent faces
   pub count : n ≡ length faces
   pub long : n * stride ≤ length t
 
-pub own-filled : (cs : List ℤ) (old : List ℕ) {b : Built} → b ≡ built cs old → {after : List ℕ} → after ≡ tableAfter b (hullOf cs) old → {n : ℕ} {v : ℤ} → b ≡ Hull n v → Filled cs n after
-own-filled cs old e {after} t {n} k =
+pub own_filled : (cs : List ℤ) (old : List ℕ) {b : Built} → b ≡ built cs old → {after : List ℕ} → after ≡ table_after b (hull_of cs) old → {n : ℕ} {v : ℤ} → b ≡ Hull n v → Filled cs n after
+own_filled cs old e {after} t {n} k =
     let i = inverted cs old (sym e ∙ k) in
     let h = i.0 in
-    let a = t ∙ ap (λ (r : Built). tableAfter r (hullOf cs) old) e in
-    let r : length h ≤ room after = subst (λ (l : List ℕ). length h ≤ room l) (sym (a ∙ i.1.table)) (room-laid h old) in
-    record { sound = i.1.sound; faces = h; is = i.1.is; part = ap (firstFaces n) a ∙ i.1.part; count = i.1.count; long = omega (arith, i.1.count) }
+    let a = t ∙ ap (λ (r : Built). table_after r (hull_of cs) old) e in
+    let r : length h ≤ room after = subst (λ (l : List ℕ). length h ≤ room l) (sym (a ∙ i.1.table)) (room_laid h old) in
+    record { sound = i.1.sound; faces = h; is = i.1.is; part = ap (first_faces n) a ∙ i.1.part; count = i.1.count; long = omega (arith, i.1.count) }

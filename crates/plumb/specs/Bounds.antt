@@ -8,12 +8,12 @@ use Rattle.plumb.specs.declared.bounds.Bounds.{Bounds}
 use Rattle.plumb.specs.Fractions.{Ranged, ratio}
 
 -- the rules' bounds
-abbrev pub boundOf : Bound → Option Ratio
-boundOf Nowhere = none
-boundOf (At f) = some (ratio f)
+abbrev pub bound_of : Bound → Option Ratio
+bound_of Nowhere = none
+bound_of (At f) = some (ratio f)
 
 abbrev pub bounds_of : Bounds → Limits
-bounds_of b = record { admits = b.admits; above = boundOf b.above; below = boundOf b.below }
+bounds_of b = record { admits = b.admits; above = bound_of b.above; below = bound_of b.below }
 
 -- what is left of the offset of plane w at x and y for the height
 abbrev pub rest_at : List ℤ → ℤ → ℤ → ℤ

@@ -2,13 +2,13 @@
 ghost use Rattle.std.specs.Prelude.{◌≡◌, true};
 ghost use Rattle.laws.specs.Numbers.{Within};
 ghost use Rattle.touches.specs.Limits.{reach};
-ghost use Rattle.touches.specs.Touches.{touch, touchCount, Sound};
-ghost use Rattle.volume.specs.Volume.{mostVolume, mostNormal};
+ghost use Rattle.touches.specs.Touches.{touch, touch_count, Sound};
+ghost use Rattle.volume.specs.Volume.{most_volume, most_normal};
 ghost use Rattle.rules.specs.Plumb.{less, more, tighter, bounded, unbounded, bounds};
-ghost use Rattle.table.specs.Table.{facesIn, usable};
+ghost use Rattle.table.specs.Table.{faces_in, usable};
 ghost use Rattle.points.specs.Whole.{PlaneNear};
 ghost use Rattle.plumb.specs.Fractions.{Ranged, ratio};
-ghost use Rattle.plumb.specs.Bounds.{boundOf, bounds_of, rest_at, RangedBound, RangedBounds};
+ghost use Rattle.plumb.specs.Bounds.{bound_of, bounds_of, rest_at, RangedBound, RangedBounds};
 
 use crate::fractions::{Fraction, Order, compare};
 use points::whole::plane_on;
@@ -32,7 +32,7 @@ pub(crate) struct Bounds {
 // The lower of a bound above and a new one, the first of equals.
 fn lower(b: Bound, t: Fraction) -> Bound
     requires { RangedBound b × Ranged (ratio t) }
-    ensures { boundOf result ≡ tighter less (boundOf b) (ratio t) }
+    ensures { bound_of result ≡ tighter less (bound_of b) (ratio t) }
 {
     match b {
         Bound::Nowhere => Bound::At(t),
@@ -47,7 +47,7 @@ fn lower(b: Bound, t: Fraction) -> Bound
 // The upper of a bound below and a new one, the first of equals.
 fn upper(b: Bound, t: Fraction) -> Bound
     requires { RangedBound b × Ranged (ratio t) }
-    ensures { boundOf result ≡ tighter more (boundOf b) (ratio t) }
+    ensures { bound_of result ≡ tighter more (bound_of b) (ratio t) }
 {
     match b {
         Bound::Nowhere => Bound::At(t),
@@ -61,7 +61,7 @@ fn upper(b: Bound, t: Fraction) -> Bound
 
 // One face: looking up it bounds the height above, looking down below; upright it admits a line that is on or behind it.
 fn look_at_face(b: Bounds, facing: i64, rest: i64) -> Bounds
-    requires { RangedBounds b × Within mostNormal facing × Within mostVolume rest }
+    requires { RangedBounds b × Within most_normal facing × Within most_volume rest }
     ensures { bounds_of result ≡ bounded facing rest (bounds_of b) }
 {
     let admits = b.admits;
@@ -108,8 +108,8 @@ fn rest(p: [i64; 4], x: i64, y: i64) -> i64
 
 // The faces one after another.
 pub(crate) fn tightest(coords: &[i32], faces: &[u16], x: i64, y: i64) -> Bounds
-    requires { Sound coords.now × (usable (touchCount coords.now) faces.now ≡ true) × Within reach x × Within reach y }
-    ensures is { bounds_of result ≡ bounds (touch coords.now) x y unbounded (facesIn faces.now) }
+    requires { Sound coords.now × (usable (touch_count coords.now) faces.now ≡ true) × Within reach x × Within reach y }
+    ensures is { bounds_of result ≡ bounds (touch coords.now) x y unbounded (faces_in faces.now) }
     ensures ranged { RangedBounds result }
 {
     let n = table::room(faces);

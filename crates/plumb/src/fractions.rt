@@ -2,7 +2,7 @@
 ghost use Rattle.std.specs.Prelude.{◌≡◌, ◌<◌, pos, ◌≤ℤ◌, ◌<ℤ◌};
 ghost use Rattle.laws.specs.Numbers.{Within};
 ghost use Rattle.laws.specs.Fractions.{compared, Parts};
-ghost use Rattle.volume.specs.Volume.{mostVolume, mostNormal};
+ghost use Rattle.volume.specs.Volume.{most_volume, most_normal};
 ghost use Rattle.plumb.specs.Fractions.{Ranged, ratio};
 
 #[derive(Drop)]
@@ -27,7 +27,7 @@ struct Cut {
 
 // The machine rounds towards 0, so a remainder below 0 takes one from the whole part.
 fn split(a: i64, b: i64) -> Cut
-    requires { (pos 0 <ℤ b) × Within mostVolume a × Within mostNormal b }
+    requires { (pos 0 <ℤ b) × Within most_volume a × Within most_normal b }
     ensures { Parts a b result.whole result.left }
 {
     let q = a / b;

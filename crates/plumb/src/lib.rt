@@ -3,13 +3,13 @@ mod bounds;
 mod fractions;
 
 ghost use Rattle.std.specs.Prelude.{◌≡◌, ◌≤◌};
-ghost use Rattle.touches.specs.Limits.{mostTouches};
+ghost use Rattle.touches.specs.Limits.{most_touches};
 ghost use Rattle.rules.specs.Plumb.{between, reading_of};
 ghost use Rattle.cover.specs.Room.{enough};
 ghost use Rattle.table.specs.Table.{room};
 ghost use Rattle.plumb.specs.Fractions.{Ranged, ratio};
 ghost use Rattle.plumb.specs.Bounds.{bounds_of, RangedBounds};
-ghost use Rattle.plumb.specs.Plumb.{rounded, plumbedBy, plumbed};
+ghost use Rattle.plumb.specs.Plumb.{rounded, plumbed_by, plumbed};
 
 use crate::bounds::{Bound, Bounds, tightest};
 use crate::fractions::{Fraction, Order, compare};
@@ -36,7 +36,7 @@ fn height(f: Fraction) -> f64
 // From the bound above to the bound below.
 fn between(u: Fraction, l: Fraction) -> Plumbed
     requires { Ranged (ratio u) × Ranged (ratio l) }
-    ensures { result ≡ plumbedBy (between (ratio u) (ratio l)) }
+    ensures { result ≡ plumbed_by (between (ratio u) (ratio l)) }
 {
     match compare(l, u) {
         Order::Less => Plumbed::Through(height(u), height(l)),
@@ -47,7 +47,7 @@ fn between(u: Fraction, l: Fraction) -> Plumbed
 
 fn reading(b: Bounds) -> Plumbed
     requires { RangedBounds b }
-    ensures { result ≡ plumbedBy (reading_of (bounds_of b)) }
+    ensures { result ≡ plumbed_by (reading_of (bounds_of b)) }
 {
     let above = b.above;
     let below = b.below;
@@ -65,7 +65,7 @@ fn reading(b: Bounds) -> Plumbed
 
 // With a table that is enough for every hull.
 fn plumb_in(faces: &mut [u16], coords: &[i32], x: i64, y: i64) -> Plumbed
-    requires { enough mostTouches ≤ room faces.old }
+    requires { enough most_touches ≤ room faces.old }
     ensures { result ≡ plumbed coords.now x y }
 {
     match hull::build::build(coords, faces) {

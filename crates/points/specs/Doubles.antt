@@ -18,8 +18,8 @@ abbrev pub det2 : Float → Float → Float → Float → Float
 det2 a b c d = minus (mul binary64 a d) (mul binary64 b c)
 
 -- (b − a) cross (c − a), as the machine works it out
-abbrev pub spotNormal : Spot → Spot → Spot → Spot
-spotNormal a b c = record {
+abbrev pub spot_normal : Spot → Spot → Spot → Spot
+spot_normal a b c = record {
   x = det2 (minus b.y a.y) (minus b.z a.z) (minus c.y a.y) (minus c.z a.z);
   y = det2 (minus b.z a.z) (minus b.x a.x) (minus c.z a.z) (minus c.x a.x);
   z = det2 (minus b.x a.x) (minus b.y a.y) (minus c.x a.x) (minus c.y a.y);

@@ -1,7 +1,7 @@
 // Points and normals in doubles: with the differences taken first every step stays below 2^53.
 ghost use Rattle.std.specs.Prelude.{◌≡◌};
 ghost use Rattle.touches.specs.Touches.{Near};
-ghost use Rattle.points.specs.Doubles.{InDoubles, spotNormal};
+ghost use Rattle.points.specs.Doubles.{InDoubles, spot_normal};
 
 use touches::Point;
 
@@ -25,7 +25,7 @@ pub fn in_doubles(p: Point) -> Spot
 
 // The normal of face (a, b, c): for points in range exactly the whole number, but a zero can be minus zero.
 pub fn normal(a: Spot, b: Spot, c: Spot) -> Spot
-    ensures { result ≡ spotNormal a b c }
+    ensures { result ≡ spot_normal a b c }
 {
     let ux = b.x - a.x;
     let uy = b.y - a.y;

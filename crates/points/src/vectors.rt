@@ -2,14 +2,14 @@
 ghost use Rattle.std.specs.Prelude.{◌≡◌};
 ghost use Rattle.laws.specs.Numbers.{Within};
 ghost use Rattle.touches.specs.Touches.{Near, Small};
-ghost use Rattle.volume.specs.Volume.{mostGap, mostNormal, mostVolume, det2, minus, cross, dot, normal, inLine};
+ghost use Rattle.volume.specs.Volume.{most_gap, most_normal, most_volume, det2, minus, cross, dot, normal, in_line};
 ghost use Rattle.points.specs.Sizes.{Number, Vector};
 
 use touches::Point;
 
 fn minus(p: Point, a: Point) -> Point
     requires { Near p × Near a }
-    ensures { Vector mostGap (minus p a) result }
+    ensures { Vector most_gap (minus p a) result }
 {
     Point {
         x: p.x - a.x,
@@ -19,15 +19,15 @@ fn minus(p: Point, a: Point) -> Point
 }
 
 fn det2(a: i64, b: i64, c: i64, d: i64) -> i64
-    requires { Within mostGap a × Within mostGap b × Within mostGap c × Within mostGap d }
-    ensures { Number mostNormal (det2 a b c d) result }
+    requires { Within most_gap a × Within most_gap b × Within most_gap c × Within most_gap d }
+    ensures { Number most_normal (det2 a b c d) result }
 {
     a * d - b * c
 }
 
 fn cross(u: Point, v: Point) -> Point
-    requires { Small mostGap u × Small mostGap v }
-    ensures { Vector mostNormal (cross u v) result }
+    requires { Small most_gap u × Small most_gap v }
+    ensures { Vector most_normal (cross u v) result }
 {
     Point {
         x: det2(u.y, u.z, v.y, v.z),
@@ -37,8 +37,8 @@ fn cross(u: Point, v: Point) -> Point
 }
 
 pub fn dot(u: Point, v: Point) -> i64
-    requires { Small mostNormal u × Small mostGap v }
-    ensures { Number mostVolume (dot u v) result }
+    requires { Small most_normal u × Small most_gap v }
+    ensures { Number most_volume (dot u v) result }
 {
     u.x * v.x + u.y * v.y + u.z * v.z
 }
@@ -46,7 +46,7 @@ pub fn dot(u: Point, v: Point) -> i64
 // The normal of face (a, b, c).
 pub fn normal(a: Point, b: Point, c: Point) -> Point
     requires { Near a × Near b × Near c }
-    ensures { Vector mostNormal (normal a b c) result }
+    ensures { Vector most_normal (normal a b c) result }
 {
     cross(minus(b, a), minus(c, a))
 }
@@ -54,7 +54,7 @@ pub fn normal(a: Point, b: Point, c: Point) -> Point
 // Three corners in line span no plane.
 pub fn in_line(a: Point, b: Point, c: Point) -> bool
     requires { Near a × Near b × Near c }
-    ensures { result ≡ inLine a b c }
+    ensures { result ≡ in_line a b c }
 {
     let n = normal(a, b, c);
     (n.x == 0) & (n.y == 0) & (n.z == 0)

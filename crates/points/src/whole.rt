@@ -2,7 +2,7 @@
 ghost use Rattle.std.specs.Prelude.{◌≡◌};
 ghost use Rattle.touches.specs.Touches.{touch, plain, Near, Sound};
 ghost use Rattle.rules.specs.Demands.{FaceOf};
-ghost use Rattle.points.specs.Whole.{wholePlane, planeOn};
+ghost use Rattle.points.specs.Whole.{whole_plane, plane_on};
 
 use crate::touch::touch;
 use crate::vectors::{dot, normal};
@@ -10,7 +10,7 @@ use touches::{Point, TouchNo};
 
 fn through(a: Point, b: Point, c: Point) -> [i64; 4]
     requires { Near a × Near b × Near c }
-    ensures { result ≡ wholePlane a b c }
+    ensures { result ≡ whole_plane a b c }
 {
     let n = normal(a, b, c);
     [n.x, n.y, n.z, dot(n, a)]
@@ -18,7 +18,7 @@ fn through(a: Point, b: Point, c: Point) -> [i64; 4]
 
 pub fn plane_on(coords: &[i32], f: [TouchNo; 3]) -> [i64; 4]
     requires { Sound coords.now × FaceOf coords.now (plain f) }
-    ensures { result ≡ planeOn (touch coords.now) (plain f) }
+    ensures { result ≡ plane_on (touch coords.now) (plain f) }
 {
     let a = touch(coords, f[0]);
     let b = touch(coords, f[1]);

@@ -10,11 +10,11 @@ use mir.Syntax.{w32, w64}
 use mir.Val.{Fits, SFits, to_z, of_z}
 use mir.Facts.{sfits_to_z, sfits_widen, Fits-nat_abs, Fits-of_z}
 use Rattle.laws.specs.Numbers.{Within}
-use Rattle.laws.proofs.Words.{Reads, r-int, r-neg, fits, stored}
+use Rattle.laws.proofs.Words.{Reads, r_int, r_neg, fits, stored}
 
-not-below : (y : ℤ) → le_z (pos 0) y ≡ true → T (non_neg y)
-not-below (pos n) e = tt
-not-below (negsuc n) e = subst T (sym e) tt
+not_below : (y : ℤ) → le_z (pos 0) y ≡ true → T (non_neg y)
+not_below (pos n) e = tt
+not_below (negsuc n) e = subst T (sym e) tt
 
 turned : (y : ℤ) → le_z (pos 0) y ≡ false → T (non_neg (neg_ℤ y))
 turned (pos n) e = absurd (omega (arith, leb-false 0 n e))
@@ -30,15 +30,15 @@ module _ {y : ℤ} (h : SFits w32 y) where
   wide = sfits_widen tt h
 
   pub plain : le_z (pos 0) y ≡ true → T (non_neg y) × Fits w64 (nat_abs y)
-  plain e = (not-below y e, Fits-nat_abs tt h)
+  plain e = (not_below y e, Fits-nat_abs tt h)
 
   turn : Reads 2147483648 (pos 0 -ℤ to_z w64 (of_z w64 y)) (neg_ℤ y)
-  turn = r-neg (stored w64 (r-int (small y h)) tt)
+  turn = r_neg (stored w64 (r_int (small y h)) tt)
 
-  pub turn-fits : SFits w64 (pos 0 -ℤ to_z w64 (of_z w64 y))
-  turn-fits = fits w64 turn tt
+  pub turn_fits : SFits w64 (pos 0 -ℤ to_z w64 (of_z w64 y))
+  turn_fits = fits w64 turn tt
 
-  pub turn-plain : le_z (pos 0) y ≡ false → T (non_neg (to_z w64 (of_z w64 (pos 0 -ℤ to_z w64 (of_z w64 y))))) × Fits w64 (nat_abs (to_z w64 (of_z w64 (pos 0 -ℤ to_z w64 (of_z w64 y)))))
-  turn-plain e =
+  pub turn_plain : le_z (pos 0) y ≡ false → T (non_neg (to_z w64 (of_z w64 (pos 0 -ℤ to_z w64 (of_z w64 y))))) × Fits w64 (nat_abs (to_z w64 (of_z w64 (pos 0 -ℤ to_z w64 (of_z w64 y)))))
+  turn_plain e =
       let s = stored w64 turn tt in
-      (rw s.is (turned y e), Fits-nat_abs tt (sfits_to_z (Fits-of_z turn-fits)))
+      (rw s.is (turned y e), Fits-nat_abs tt (sfits_to_z (Fits-of_z turn_fits)))

@@ -11,30 +11,30 @@ use lib.IntN.{ℤ, pos}
 use lib.ListN.{length, take, drop, get_or}
 use lib.Seq.{take-suc, take_all, get_or-drop, ext_get_or}
 use Rattle.touches.specs.Touches.{Sound}
-use Rattle.records.specs.Record.{twoBytes, ofTwo, bits16, body_of, coordinateAt, firstTouches, touchesOf, AreBytes}
-use Rattle.records.proofs.WordLaws.{two_back, high-of, low_of, of-two-below, signed_back, bits_back, bits_below}
+use Rattle.records.specs.Record.{two_bytes, of_two, bits16, body_of, coordinate_at, first_touches, touches_of, AreBytes}
+use Rattle.records.proofs.WordLaws.{two_back, high_of, low_of, of_two_below, signed_back, bits_back, bits_below}
 
 -- ---- the body of a list
-pub length-body : (cs : List ℤ) → length (body_of cs) ≡ length cs * 2
+pub length_body : (cs : List ℤ) → length (body_of cs) ≡ length cs * 2
 unfolding body_of
-length-body [] = refl
-length-body (x ∷ cs) = omega (arith, length-body cs)
+length_body [] = refl
+length_body (x ∷ cs) = omega (arith, length_body cs)
 
-body-append : (a b : List ℤ) → body_of (a ++ b) ≡ body_of a ++ body_of b
+body_append : (a b : List ℤ) → body_of (a ++ b) ≡ body_of a ++ body_of b
 unfolding body_of
-body-append [] b = refl
-body-append (x ∷ a) b = ap (λ (l : List ℕ). twoBytes (bits16 x) ++ l) (body-append a b)
+body_append [] b = refl
+body_append (x ∷ a) b = ap (λ (l : List ℕ). two_bytes (bits16 x) ++ l) (body_append a b)
 
-pub body-none : body_of [] ≡ []
+pub body_none : body_of [] ≡ []
 unfolding body_of
-body-none = refl
+body_none = refl
 
-pub body_more : (cs : List ℤ) (i : ℕ) → i < length cs → body_of (take (i + 1) cs) ≡ body_of (take i cs) ++ twoBytes (bits16 (get_or cs i (pos 0)))
+pub body_more : (cs : List ℤ) (i : ℕ) → i < length cs → body_of (take (i + 1) cs) ≡ body_of (take i cs) ++ two_bytes (bits16 (get_or cs i (pos 0)))
 unfolding body_of
-body_more cs i h = rw (add-one, take-suc cs i (pos 0), body-append (take i cs) (get_or cs i (pos 0) ∷ []))
+body_more cs i h = rw (add-one, take-suc cs i (pos 0), body_append (take i cs) (get_or cs i (pos 0) ∷ []))
 
-pub body-all : (cs : List ℤ) (i : ℕ) → length cs ≤ i → body_of (take i cs) ≡ body_of cs
-body-all cs i h = rw (take_all i cs h)
+pub body_all : (cs : List ℤ) (i : ℕ) → length cs ≤ i → body_of (take i cs) ≡ body_of cs
+body_all cs i h = rw (take_all i cs h)
 
 -- the two bytes of coordinate i
 pub record TwoAt (i n : ℕ) (body : List ℕ) : Type 0 where
@@ -52,73 +52,73 @@ body_at (x ∷ cs) (suc i) h =
     record { high = rw e t.high; low = rw (e, f) t.low }
 
 -- ---- the touches of a body
-length-first : (k : ℕ) (body : List ℕ) → length (firstTouches k body) ≡ k * 3
-length-first zero body = refl
-length-first (suc k) body = omega (arith, length-first k (drop 6 body))
+length_first : (k : ℕ) (body : List ℕ) → length (first_touches k body) ≡ k * 3
+length_first zero body = refl
+length_first (suc k) body = omega (arith, length_first k (drop 6 body))
 
-pub length-touches : (body : List ℕ) → length (touchesOf body) ≡ length body / 6 * 3
-unfolding touchesOf
-length-touches body = length-first (length body / 6) body
+pub length_touches : (body : List ℕ) → length (touches_of body) ≡ length body / 6 * 3
+unfolding touches_of
+length_touches body = length_first (length body / 6) body
 
 -- a record's touches come in threes of coordinates
-pub touches-whole : (body : List ℕ) → length (touchesOf body) % 3 ≡ 0
-touches-whole body = omega (arith, length-touches body)
+pub touches_whole : (body : List ℕ) → length (touches_of body) % 3 ≡ 0
+touches_whole body = omega (arith, length_touches body)
 
-first-at : (k : ℕ) (body : List ℕ) (i : ℕ) → i < k * 3 → get_or (firstTouches k body) i (pos 0) ≡ coordinateAt (i * 2) body
-first-at zero body i h = absurd (omega arith)
-first-at (suc k) body zero h = refl
-first-at (suc k) body (suc zero) h = refl
-first-at (suc k) body (suc (suc zero)) h = refl
-first-at (suc k) body (suc (suc (suc i))) h =
+first_at : (k : ℕ) (body : List ℕ) (i : ℕ) → i < k * 3 → get_or (first_touches k body) i (pos 0) ≡ coordinate_at (i * 2) body
+first_at zero body i h = absurd (omega arith)
+first_at (suc k) body zero h = refl
+first_at (suc k) body (suc zero) h = refl
+first_at (suc k) body (suc (suc zero)) h = refl
+first_at (suc k) body (suc (suc (suc i))) h =
     let e : 6 + i * 2 ≡ suc (suc (suc i)) * 2 = omega arith in
     let f : 6 + (i * 2 + 1) ≡ suc (suc (suc i)) * 2 + 1 = omega arith in
-    first-at k (drop 6 body) i (omega arith) ∙ rw (get_or-drop 6 body (i * 2) 0, get_or-drop 6 body (i * 2 + 1) 0, e, f)
+    first_at k (drop 6 body) i (omega arith) ∙ rw (get_or-drop 6 body (i * 2) 0, get_or-drop 6 body (i * 2 + 1) 0, e, f)
 
-pub touch-at : (body : List ℕ) (i : ℕ) → i < length body / 6 * 3 → get_or (touchesOf body) i (pos 0) ≡ coordinateAt (i * 2) body
-unfolding touchesOf
-touch-at body i h = first-at (length body / 6) body i h
+pub touch_at : (body : List ℕ) (i : ℕ) → i < length body / 6 * 3 → get_or (touches_of body) i (pos 0) ≡ coordinate_at (i * 2) body
+unfolding touches_of
+touch_at body i h = first_at (length body / 6) body i h
 
 -- ---- there and back
-pub touches-back : (cs : List ℤ) → Sound cs → touchesOf (body_of cs) ≡ cs
-touches-back cs s = ext_get_or (pos 0) (touchesOf (body_of cs)) cs long (λ i h. same i (omega (arith, long)))
+pub touches_back : (cs : List ℤ) → Sound cs → touches_of (body_of cs) ≡ cs
+touches_back cs s = ext_get_or (pos 0) (touches_of (body_of cs)) cs long (λ i h. same i (omega (arith, long)))
   where
-    long : length (touchesOf (body_of cs)) ≡ length cs
-    long = omega (arith, length-touches (body_of cs), length-body cs, s.whole)
+    long : length (touches_of (body_of cs)) ≡ length cs
+    long = omega (arith, length_touches (body_of cs), length_body cs, s.whole)
 
-    same : (i : ℕ) → i < length cs → get_or (touchesOf (body_of cs)) i (pos 0) ≡ get_or cs i (pos 0)
+    same : (i : ℕ) → i < length cs → get_or (touches_of (body_of cs)) i (pos 0) ≡ get_or cs i (pos 0)
     same i h =
         let x = get_or cs i (pos 0) in
         let t = body_at cs i h in
-        touch-at (body_of cs) i (omega (arith, long, length-touches (body_of cs))) ∙ rw (t.high, t.low, two_back (bits16 x) (bits_below x (s.near i h)), signed_back x (s.near i h))
+        touch_at (body_of cs) i (omega (arith, long, length_touches (body_of cs))) ∙ rw (t.high, t.low, two_back (bits16 x) (bits_below x (s.near i h)), signed_back x (s.near i h))
 
 module _ (body : List ℕ) (whole : length body % 6 ≡ 0) (bytes : AreBytes body) where
-  pub body_back : body_of (touchesOf body) ≡ body
-  body_back = ext_get_or 0 (body_of (touchesOf body)) body long same
+  pub body_back : body_of (touches_of body) ≡ body
+  body_back = ext_get_or 0 (body_of (touches_of body)) body long same
     where
-      long : length (body_of (touchesOf body)) ≡ length body
-      long = omega (arith, length-body (touchesOf body), length-touches body)
+      long : length (body_of (touches_of body)) ≡ length body
+      long = omega (arith, length_body (touches_of body), length_touches body)
 
       -- the two bytes of coordinate i
-      pair : (i : ℕ) → i < length (touchesOf body) → (get_or (body_of (touchesOf body)) (i * 2) 0 ≡ get_or body (i * 2) 0) × (get_or (body_of (touchesOf body)) (i * 2 + 1) 0 ≡ get_or body (i * 2 + 1) 0)
+      pair : (i : ℕ) → i < length (touches_of body) → (get_or (body_of (touches_of body)) (i * 2) 0 ≡ get_or body (i * 2) 0) × (get_or (body_of (touches_of body)) (i * 2 + 1) 0 ≡ get_or body (i * 2 + 1) 0)
       pair i h =
           let high = get_or body (i * 2) 0 in
           let low = get_or body (i * 2 + 1) 0 in
           let h8 = bytes.small (i * 2) in
           let l8 = bytes.small (i * 2 + 1) in
-          let t = body_at (touchesOf body) i h in
-          let e : bits16 (get_or (touchesOf body) i (pos 0)) ≡ ofTwo high low = ap bits16 (touch-at body i (omega (arith, length-touches body))) ∙ bits_back (ofTwo high low) (of-two-below high low h8 l8) in
-          (t.high ∙ rw e (high-of high low h8 l8), t.low ∙ rw e (low_of high low h8 l8))
+          let t = body_at (touches_of body) i h in
+          let e : bits16 (get_or (touches_of body) i (pos 0)) ≡ of_two high low = ap bits16 (touch_at body i (omega (arith, length_touches body))) ∙ bits_back (of_two high low) (of_two_below high low h8 l8) in
+          (t.high ∙ rw e (high_of high low h8 l8), t.low ∙ rw e (low_of high low h8 l8))
 
-      same : (j : ℕ) → j < length (body_of (touchesOf body)) → get_or (body_of (touchesOf body)) j 0 ≡ get_or body j 0
+      same : (j : ℕ) → j < length (body_of (touches_of body)) → get_or (body_of (touches_of body)) j 0 ≡ get_or body j 0
       same j h = go (eqb (j % 2) 0) refl
         where
           i : ℕ
           i = j / 2
 
-          inside : j / 2 < length (touchesOf body)
-          inside = omega (arith, length-body (touchesOf body))
+          inside : j / 2 < length (touches_of body)
+          inside = omega (arith, length_body (touches_of body))
 
-          go : (b : Bool) → eqb (j % 2) 0 ≡ b → get_or (body_of (touchesOf body)) j 0 ≡ get_or body j 0
+          go : (b : Bool) → eqb (j % 2) 0 ≡ b → get_or (body_of (touches_of body)) j 0 ≡ get_or body j 0
           go true t =
               let e : j / 2 * 2 ≡ j = omega (arith, eqb-true (j % 2) 0 t) in
               rw e at (pair (j / 2) inside).0

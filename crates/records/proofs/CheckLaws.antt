@@ -7,71 +7,71 @@ use native.Mathlib.Omega.{arith}
 use borrow.Author.Tests.{le-leb, lt-leb, leb-true, eq-eqb, ne_eqb, eqb-true}
 use lib.Dec.{leb, eqb}
 use lib.ListN.{length, drop, length-drop}
-use Rattle.touches.specs.Limits.{mostTouches}
-use Rattle.touches.specs.Refusals.{tooManyTouches, recordLengthWrong, recordVersionUnknown, recordTouchCutShort, because}
+use Rattle.touches.specs.Limits.{most_touches}
+use Rattle.touches.specs.Refusals.{too_many_touches, record_length_wrong, record_version_unknown, record_touch_cut_short, because}
 use Rattle.touches.specs.Check.{checked}
 use Rattle.touches.specs.declared.TouchList.{TouchList}
 use Rattle.touches.specs.declared.Checked.TheVariants.{Accepted, Refused}
-use Rattle.records.specs.Record.{countIn, versionIn, touchesIn}
-use Rattle.records.specs.Answers.{unless, checkedRecord}
-use Rattle.records.proofs.BodyLaws.{length-touches, touches-whole}
+use Rattle.records.specs.Record.{count_in, version_in, touches_in}
+use Rattle.records.specs.Answers.{unless, checked_record}
+use Rattle.records.proofs.BodyLaws.{length_touches, touches_whole}
 use Rattle.records.proofs.SoundLaws.{never}
 
 module _ (version : ℕ) (r : List ℕ) where
-  pub is-short : length r < 3 → checkedRecord version r ≡ Refused (because recordLengthWrong)
-  unfolding checkedRecord
-  is-short h = rw (lt-leb 3 (length r) h)
+  pub is_short : length r < 3 → checked_record version r ≡ Refused (because record_length_wrong)
+  unfolding checked_record
+  is_short h = rw (lt-leb 3 (length r) h)
 
   -- ---- past the tests of 8, 9 and 10
   module _ (long : 3 ≤ length r) where
-    pub is-miscounted : (countIn r ≡ length r - 2 → ⊥) → checkedRecord version r ≡ Refused (because recordLengthWrong)
-    unfolding checkedRecord
-    is-miscounted h = rw (le-leb 3 (length r) long, ne_eqb (countIn r) (length r - 2) h)
+    pub is_miscounted : (count_in r ≡ length r - 2 → ⊥) → checked_record version r ≡ Refused (because record_length_wrong)
+    unfolding checked_record
+    is_miscounted h = rw (le-leb 3 (length r) long, ne_eqb (count_in r) (length r - 2) h)
 
-    module _ (count : countIn r ≡ length r - 2) where
-      pub is-other : (versionIn r ≡ version → ⊥) → checkedRecord version r ≡ Refused (because recordVersionUnknown)
-      unfolding checkedRecord
-      is-other h = rw (le-leb 3 (length r) long, eq-eqb (countIn r) (length r - 2) count, ne_eqb (versionIn r) version h)
+    module _ (count : count_in r ≡ length r - 2) where
+      pub is_other : (version_in r ≡ version → ⊥) → checked_record version r ≡ Refused (because record_version_unknown)
+      unfolding checked_record
+      is_other h = rw (le-leb 3 (length r) long, eq-eqb (count_in r) (length r - 2) count, ne_eqb (version_in r) version h)
 
-      module _ (same : versionIn r ≡ version) where
-        pub is-uneven : ((countIn r - 1) % 6 ≡ 0 → ⊥) → checkedRecord version r ≡ Refused (because recordTouchCutShort)
-        unfolding checkedRecord
-        is-uneven h = rw (le-leb 3 (length r) long, eq-eqb (countIn r) (length r - 2) count, eq-eqb (versionIn r) version same, ne_eqb ((countIn r - 1) % 6) 0 h)
+      module _ (same : version_in r ≡ version) where
+        pub is_uneven : ((count_in r - 1) % 6 ≡ 0 → ⊥) → checked_record version r ≡ Refused (because record_touch_cut_short)
+        unfolding checked_record
+        is_uneven h = rw (le-leb 3 (length r) long, eq-eqb (count_in r) (length r - 2) count, eq-eqb (version_in r) version same, ne_eqb ((count_in r - 1) % 6) 0 h)
 
-        module _ (whole : (countIn r - 1) % 6 ≡ 0) where
-          pub is-touches : checkedRecord version r ≡ checked (touchesIn r)
-          unfolding checkedRecord
-          is-touches = rw (le-leb 3 (length r) long, eq-eqb (countIn r) (length r - 2) count, eq-eqb (versionIn r) version same, eq-eqb ((countIn r - 1) % 6) 0 whole)
+        module _ (whole : (count_in r - 1) % 6 ≡ 0) where
+          pub is_touches : checked_record version r ≡ checked (touches_in r)
+          unfolding checked_record
+          is_touches = rw (le-leb 3 (length r) long, eq-eqb (count_in r) (length r - 2) count, eq-eqb (version_in r) version same, eq-eqb ((count_in r - 1) % 6) 0 whole)
 
-          length-touches-in : length (touchesIn r) ≡ (countIn r - 1) / 6 * 3
-          length-touches-in = omega (arith, length-touches (drop 3 r), length-drop 3 r)
+          length_touches_in : length (touches_in r) ≡ (count_in r - 1) / 6 * 3
+          length_touches_in = omega (arith, length_touches (drop 3 r), length-drop 3 r)
 
-          pub is-many : mostTouches < (countIn r - 1) / 6 → checkedRecord version r ≡ Refused (because tooManyTouches)
-          is-many h =
-              let n = length-touches-in in
-              let t : length (touchesIn r) % 3 ≡ 0 = touches-whole (drop 3 r) in
-              let m : mostTouches * 3 < length (touchesIn r) = omega arith in
-              is-touches ∙ rw (eq-eqb (length (touchesIn r) % 3) 0 t, lt-leb (length (touchesIn r)) (mostTouches * 3) m)
+          pub is_many : most_touches < (count_in r - 1) / 6 → checked_record version r ≡ Refused (because too_many_touches)
+          is_many h =
+              let n = length_touches_in in
+              let t : length (touches_in r) % 3 ≡ 0 = touches_whole (drop 3 r) in
+              let m : most_touches * 3 < length (touches_in r) = omega arith in
+              is_touches ∙ rw (eq-eqb (length (touches_in r) % 3) 0 t, lt-leb (length (touches_in r)) (most_touches * 3) m)
 
 -- what an accepted record has
 pub record Passes (version : ℕ) (r : List ℕ) (l : TouchList) : Type 0 where
   pub long : 3 ≤ length r
-  pub count : countIn r ≡ length r - 2
-  pub same : versionIn r ≡ version
-  pub whole : (countIn r - 1) % 6 ≡ 0
-  pub touches : checked (touchesIn r) ≡ Accepted l
+  pub count : count_in r ≡ length r - 2
+  pub same : version_in r ≡ version
+  pub whole : (count_in r - 1) % 6 ≡ 0
+  pub touches : checked (touches_in r) ≡ Accepted l
 
-pub passes : (version : ℕ) (r : List ℕ) {l : TouchList} → checkedRecord version r ≡ Accepted l → Passes version r l
-unfolding checkedRecord
-passes version r {l} e = go (leb 3 (length r)) (eqb (countIn r) (length r - 2)) (eqb (versionIn r) version) (eqb ((countIn r - 1) % 6) 0) refl refl refl refl e
+pub passes : (version : ℕ) (r : List ℕ) {l : TouchList} → checked_record version r ≡ Accepted l → Passes version r l
+unfolding checked_record
+passes version r {l} e = go (leb 3 (length r)) (eqb (count_in r) (length r - 2)) (eqb (version_in r) version) (eqb ((count_in r - 1) % 6) 0) refl refl refl refl e
   where
-    go : (a b c d : Bool) → leb 3 (length r) ≡ a → eqb (countIn r) (length r - 2) ≡ b → eqb (versionIn r) version ≡ c → eqb ((countIn r - 1) % 6) 0 ≡ d
-        → unless (a && b) 8 (unless c 9 (unless d 10 (checked (touchesIn r)))) ≡ Accepted l → Passes version r l
+    go : (a b c d : Bool) → leb 3 (length r) ≡ a → eqb (count_in r) (length r - 2) ≡ b → eqb (version_in r) version ≡ c → eqb ((count_in r - 1) % 6) 0 ≡ d
+        → unless (a && b) 8 (unless c 9 (unless d 10 (checked (touches_in r)))) ≡ Accepted l → Passes version r l
     go true true true true ea eb ec ed e = record {
       long = leb-true 3 (length r) ea;
-      count = eqb-true (countIn r) (length r - 2) eb;
-      same = eqb-true (versionIn r) version ec;
-      whole = eqb-true ((countIn r - 1) % 6) 0 ed;
+      count = eqb-true (count_in r) (length r - 2) eb;
+      same = eqb-true (version_in r) version ec;
+      whole = eqb-true ((count_in r - 1) % 6) 0 ed;
       touches = e;
     }
     go true true true false ea eb ec ed e = absurd (never e)

@@ -8,20 +8,20 @@ use lib.IntN.{ℤ, pos, negsuc}
 use lib.Dec.{ltb}
 use Rattle.laws.specs.Numbers.{Within}
 use Rattle.touches.specs.Limits.{reach}
-use Rattle.records.specs.Record.{ofTwo, bits16, signed16}
+use Rattle.records.specs.Record.{of_two, bits16, signed16}
 
-pub two_back : (n : ℕ) → n < 65536 → ofTwo (n / 256 % 256) (n % 256) ≡ n
+pub two_back : (n : ℕ) → n < 65536 → of_two (n / 256 % 256) (n % 256) ≡ n
 two_back n h = omega arith
 
 module _ (high low : ℕ) (h : high < 256) (k : low < 256) where
-  pub high-of : ofTwo high low / 256 % 256 ≡ high
-  high-of = omega arith
+  pub high_of : of_two high low / 256 % 256 ≡ high
+  high_of = omega arith
 
-  pub low_of : ofTwo high low % 256 ≡ low
+  pub low_of : of_two high low % 256 ≡ low
   low_of = omega arith
 
-  pub of-two-below : ofTwo high low < 65536
-  of-two-below = omega arith
+  pub of_two_below : of_two high low < 65536
+  of_two_below = omega arith
 
 -- ---- the two halves of the signed numbers
 pub signed_low : (n : ℕ) → n < 32768 → signed16 n ≡ pos n

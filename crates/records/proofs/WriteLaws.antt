@@ -9,37 +9,37 @@ use lib.ListN.{length, set}
 use Rattle.laws.specs.Lists.{Laid}
 use Rattle.laws.proofs.Tables.{laid_then, laid_one}
 use Rattle.touches.specs.Touches.{Sound}
-use Rattle.touches.specs.Refusals.{recordRoomTooSmall, because}
+use Rattle.touches.specs.Refusals.{record_room_too_small, because}
 use Rattle.touches.specs.Check.{checked}
 use Rattle.touches.specs.declared.Refusal.{Refusal}
 use Rattle.touches.specs.declared.TouchList.{TouchList}
 use Rattle.touches.specs.declared.Checked.TheVariants.{Accepted, Refused}
-use Rattle.records.specs.Record.{twoBytes, body_of, recordOf}
+use Rattle.records.specs.Record.{two_bytes, body_of, record_of}
 use Rattle.records.specs.Answers.{WriteGives}
 use Rattle.records.specs.declared.WriteAnswer.TheVariants.{Bytes, Refused as WriteRefused}
-use Rattle.records.proofs.SoundLaws.{accepted-sound, accepted-count}
-use Rattle.records.proofs.RecordLaws.{count-is, length-record}
+use Rattle.records.proofs.SoundLaws.{accepted_sound, accepted_count}
+use Rattle.records.proofs.RecordLaws.{count_is, length_record}
 
-record-parts : (version : ℕ) (cs : List ℤ) → Sound cs → recordOf version cs ≡ twoBytes (1 + length cs / 3 * 6) ++ (version ∷ []) ++ body_of cs
-unfolding recordOf
-record-parts version cs s = rw (count-is version cs s)
+record_parts : (version : ℕ) (cs : List ℤ) → Sound cs → record_of version cs ≡ two_bytes (1 + length cs / 3 * 6) ++ (version ∷ []) ++ body_of cs
+unfolding record_of
+record_parts version cs s = rw (count_is version cs s)
 
 -- the count, the version, the body
-pub laid-record : {old first after : List ℕ} {at r : ℕ} (version : ℕ) (cs : List ℤ) → Sound cs → at < length first
-    → Laid 0 (twoBytes (1 + length cs / 3 * 6)) old at first → Laid (at + 1) (body_of cs) (set first at version) r after → Laid 0 (recordOf version cs) old r after
-laid-record {first = first} {at = at} version cs s h p q = rw (record-parts version cs s) (laid_then (laid_then p (omega arith) (laid_one at version first h)) (omega arith) q)
+pub laid_record : {old first after : List ℕ} {at r : ℕ} (version : ℕ) (cs : List ℤ) → Sound cs → at < length first
+    → Laid 0 (two_bytes (1 + length cs / 3 * 6)) old at first → Laid (at + 1) (body_of cs) (set first at version) r after → Laid 0 (record_of version cs) old r after
+laid_record {first = first} {at = at} version cs s h p q = rw (record_parts version cs s) (laid_then (laid_then p (omega arith) (laid_one at version first h)) (omega arith) q)
 
 module _ (version : ℕ) (cs : List ℤ) {l : TouchList} (e : checked cs ≡ Accepted l) where
-  size_is : length (recordOf version cs) ≡ 3 + 6 * l.count
-  size_is = omega (arith, length-record version cs (accepted-sound cs e), accepted-count cs e)
+  size_is : length (record_of version cs) ≡ 3 + 6 * l.count
+  size_is = omega (arith, length_record version cs (accepted_sound cs e), accepted_count cs e)
 
-  pub gives-bytes : {old after : List ℕ} {n : ℕ} → 3 + 6 * l.count ≤ length old → Laid 0 (recordOf version cs) old n after → WriteGives version cs old (Bytes n) after
-  gives-bytes {old} {after} {n} h p =
+  pub gives_bytes : {old after : List ℕ} {n : ℕ} → 3 + 6 * l.count ≤ length old → Laid 0 (record_of version cs) old n after → WriteGives version cs old (Bytes n) after
+  gives_bytes {old} {after} {n} h p =
       let k : n ≡ 3 + 6 * l.count = omega (arith, p.next, size_is) in
       record { answer = rw (e, le-leb (3 + 6 * l.count) (length old) h, k); table = p.table }
 
-  pub gives-12 : {old : List ℕ} → length old < 3 + 6 * l.count → WriteGives version cs old (WriteRefused (because recordRoomTooSmall)) old
-  gives-12 {old} h = record { answer = rw (e, lt-leb (3 + 6 * l.count) (length old) h); table = refl }
+  pub gives_12 : {old : List ℕ} → length old < 3 + 6 * l.count → WriteGives version cs old (WriteRefused (because record_room_too_small)) old
+  gives_12 {old} h = record { answer = rw (e, lt-leb (3 + 6 * l.count) (length old) h); table = refl }
 
-pub gives-refused : (version : ℕ) (cs : List ℤ) {x : Refusal} {old : List ℕ} → checked cs ≡ Refused x → WriteGives version cs old (WriteRefused x) old
-gives-refused version cs e = record { answer = rw e; table = refl }
+pub gives_refused : (version : ℕ) (cs : List ℤ) {x : Refusal} {old : List ℕ} → checked cs ≡ Refused x → WriteGives version cs old (WriteRefused x) old
+gives_refused version cs e = record { answer = rw e; table = refl }

@@ -3,8 +3,8 @@ mod reading;
 mod writing;
 
 ghost use Rattle.std.specs.Prelude.{◌≡◌};
-ghost use Rattle.records.specs.Record.{plainVersion};
-ghost use Rattle.records.specs.Answers.{ReadGives, WriteGives, CopyGives, readNumbers, writeNumbers};
+ghost use Rattle.records.specs.Record.{plain_version};
+ghost use Rattle.records.specs.Answers.{ReadGives, WriteGives, CopyGives, read_numbers, write_numbers};
 
 use touches::{Refusal, TouchList, TouchNo};
 
@@ -32,7 +32,7 @@ pub struct Numbers {
 }
 
 pub fn read_numbers(a: ReadAnswer) -> Numbers
-    ensures { result ≡ readNumbers a }
+    ensures { result ≡ read_numbers a }
 {
     match a {
         ReadAnswer::Touches(n) => Numbers {
@@ -52,7 +52,7 @@ pub fn read_numbers(a: ReadAnswer) -> Numbers
 }
 
 pub fn write_numbers(a: WriteAnswer) -> Numbers
-    ensures { result ≡ writeNumbers a }
+    ensures { result ≡ write_numbers a }
 {
     match a {
         WriteAnswer::Bytes(n) => Numbers {
@@ -73,21 +73,21 @@ pub fn write_numbers(a: WriteAnswer) -> Numbers
 
 // The touches of a record, into the lent list.
 pub fn read(bytes: &[u8], coords: &mut [i32]) -> ReadAnswer
-    ensures { ReadGives plainVersion bytes.now coords.old result coords.new }
+    ensures { ReadGives plain_version bytes.now coords.old result coords.new }
 {
     reading::read_as(coords, bytes, PLAIN)
 }
 
 // The record of a touch list, into the lent buffer.
 pub fn write(coords: &[i32], buffer: &mut [u8]) -> WriteAnswer
-    ensures { WriteGives plainVersion coords.now buffer.old result buffer.new }
+    ensures { WriteGives plain_version coords.now buffer.old result buffer.new }
 {
     writing::write_as(buffer, coords, PLAIN)
 }
 
 // The archive copier: a record read, and its touches written again.
 pub fn copy(bytes: &[u8], buffer: &mut [u8]) -> WriteAnswer
-    ensures { CopyGives plainVersion bytes.now buffer.old result buffer.new }
+    ensures { CopyGives plain_version bytes.now buffer.old result buffer.new }
 {
     let mut room = [0i32; TouchList::MOST * 3];
     match read(bytes, &mut room) {

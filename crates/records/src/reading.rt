@@ -1,10 +1,10 @@
 // From bytes to touches.
 ghost use Rattle.std.specs.Prelude.{◌≡◌, ◌*◌, ◌/◌, ◌≤◌, length};
 ghost use Rattle.laws.specs.Lists.{lay};
-ghost use Rattle.touches.specs.Limits.{mostTouches};
+ghost use Rattle.touches.specs.Limits.{most_touches};
 ghost use Rattle.touches.specs.Refusals.{because};
 ghost use Rattle.touches.specs.declared.Checked.TheVariants.{Refused as CheckRefused};
-ghost use Rattle.records.specs.Record.{ofTwo, signed16, touchesOf};
+ghost use Rattle.records.specs.Record.{of_two, signed16, touches_of};
 ghost use Rattle.records.specs.Answers.{ReadGives};
 ghost use Rattle.records.specs.Inner.{Opened};
 
@@ -12,13 +12,13 @@ use crate::ReadAnswer;
 use touches::{Checked, Refusal, TouchList};
 
 fn of_two(high: u8, low: u8) -> usize
-    ensures { result ≡ ofTwo high low }
+    ensures { result ≡ of_two high low }
 {
     high as usize * 256 + low as usize
 }
 
 fn coordinate(high: u8, low: u8) -> i32
-    ensures { result ≡ signed16 (ofTwo high low) }
+    ensures { result ≡ signed16 (of_two high low) }
 {
     let n = high as u32 * 256 + low as u32;
     if n < 32768 {
@@ -32,7 +32,7 @@ fn coordinate(high: u8, low: u8) -> i32
 // The coordinates of the body's whole touches, to the front of room.
 fn unpack(room: &mut [i32], body: &[u8])
     requires { length body.now / 6 * 3 ≤ length room.old }
-    ensures { room.new ≡ lay 0 (touchesOf body.now) room.old }
+    ensures { room.new ≡ lay 0 (touches_of body.now) room.old }
 {
     let n = body.len() / 6 * 3;
     let mut i: usize = 0;
@@ -50,7 +50,7 @@ fn refused(number: u8) -> Checked
 
 // Refusals 8, 9, 10, 2 and 3 of a record; an accepted one's touches stand at the front of room.
 fn check_record(room: &mut [i32], bytes: &[u8], version: u8) -> Checked
-    requires { length room.old ≡ mostTouches * 3 }
+    requires { length room.old ≡ most_touches * 3 }
     ensures { Opened version bytes.now result room.new }
 {
     if bytes.len() < 3 {

@@ -4,7 +4,7 @@ ghost use Rattle.laws.specs.Lists.{Laid};
 ghost use Rattle.laws.specs.Numbers.{Within};
 ghost use Rattle.touches.specs.Limits.{reach};
 ghost use Rattle.touches.specs.Touches.{Sound};
-ghost use Rattle.records.specs.Record.{twoBytes, bits16, body_of, recordOf};
+ghost use Rattle.records.specs.Record.{two_bytes, bits16, body_of, record_of};
 ghost use Rattle.records.specs.Answers.{WriteGives};
 
 use crate::WriteAnswer;
@@ -24,7 +24,7 @@ fn bits_of(x: i32) -> usize
 
 fn put_two(buffer: &mut [u8], at: usize, n: usize) -> usize
     requires { at + 2 ≤ length buffer.old }
-    ensures { Laid at (twoBytes n) buffer.old result buffer.new }
+    ensures { Laid at (two_bytes n) buffer.old result buffer.new }
 {
     buffer[at] = (n / 256 % 256) as u8;
     buffer[at + 1] = (n % 256) as u8;
@@ -46,7 +46,7 @@ fn put_body(buffer: &mut [u8], start: usize, coords: &[i32]) -> usize
 
 fn put_record(buffer: &mut [u8], coords: &[i32], version: u8) -> usize
     requires { Sound coords.now × (3 + length coords.now * 2 ≤ length buffer.old) }
-    ensures { Laid 0 (recordOf version coords.now) buffer.old result buffer.new }
+    ensures { Laid 0 (record_of version coords.now) buffer.old result buffer.new }
 {
     let at = put_two(buffer, 0, 1 + coords.len() / 3 * 6);
     buffer[at] = version;

@@ -6,11 +6,11 @@ use Prim.Native.Nat.{ℕ}
 use lib.IntN.{ℤ, pos, negsuc}
 use lib.ListN.{get_or}
 use Rattle.touches.specs.declared.Point.{Point}
-use Rattle.volume.specs.Volume.{Vol, normal, inLine}
-use Rattle.volume.specs.Triangle.{contains, inTriangle, onSegment}
-use Rattle.rules.specs.Faces.{Face, Places, faceVol, visible}
+use Rattle.volume.specs.Volume.{Vol, normal, in_line}
+use Rattle.volume.specs.Triangle.{contains, in_triangle, on_segment}
+use Rattle.rules.specs.Faces.{Face, Places, face_vol, visible}
 use Rattle.rules.specs.Building.{seen, unseen, step, build, hull, volume}
-use Rattle.rules.specs.Placing.{outside, on, inside, astray, worst, holds, firstHolding, firstPlane, lies}
+use Rattle.rules.specs.Placing.{outside, on, inside, astray, worst, holds, first_holding, first_plane, lies}
 
 abbrev at : ℤ → ℤ → ℤ → Point
 at x y z = record { x = x; y = y; z = z }
@@ -57,42 +57,42 @@ pub record Blocks : Type 0 where
   pub T : Gives block 4 four (pos 1000)
   pub corner : Gives (and 10 10 10) 5 six (pos 3000)
   pub edge_on : Gives (and 10 10 0) 5 six (pos 2000)
-  pub in-line : Gives (and 20 0 0) 5 six (pos 2000)
+  pub in_line : Gives (and 20 0 0) 5 six (pos 2000)
   pub within : Gives (and 1 1 1) 5 four (pos 1000)
-  pub on-face : Gives (and 2 3 5) 5 four (pos 1000)
+  pub on_face : Gives (and 2 3 5) 5 four (pos 1000)
   pub repeated : Gives (at o o o ∷ block) 5 shifted (pos 1000)
   pub wide : Gives large 4 cross (pos 2147483648)
   pub flat : hull (places plane) 4 ≡ none
-  pub lies-inside : lies (places block) four (at (pos 1) (pos 1) (pos 1)) ≡ inside
-  pub lies-on : lies (places block) four (at (pos 2) (pos 3) (pos 5)) ≡ on 3
-  pub lies-outside : lies (places block) four (at (pos 10) (pos 10) (pos 10)) ≡ outside 3 (pos 2000)
+  pub lies_inside : lies (places block) four (at (pos 1) (pos 1) (pos 1)) ≡ inside
+  pub lies_on : lies (places block) four (at (pos 2) (pos 3) (pos 5)) ≡ on 3
+  pub lies_outside : lies (places block) four (at (pos 10) (pos 10) (pos 10)) ≡ outside 3 (pos 2000)
   -- beside the paper's: on the planes of two faces and in front of a third
-  pub lies-beyond : lies (places block) four (at (pos 20) o o) ≡ outside 3 (pos 1000)
+  pub lies_beyond : lies (places block) four (at (pos 20) o o) ≡ outside 3 (pos 1000)
   -- in front of three faces, the two worst alike and not the first
-  pub lies-worst : lies (places block) four (at (negsuc 1) (negsuc 1) (negsuc 0)) ≡ outside 1 (pos 200)
+  pub lies_worst : lies (places block) four (at (negsuc 1) (negsuc 1) (negsuc 0)) ≡ outside 1 (pos 200)
   -- on the flat side of two triangles: in the second one, and on the border; on the plane of one triangle alone and beyond it
-  pub lies-second : lies (places (and 10 10 0)) six (at (pos 9) (pos 9) o) ≡ on 5
-  pub lies-border : lies (places (and 10 10 0)) six (at (pos 5) (pos 5) o) ≡ on 0
-  pub lies-astray : lies (places block) (face 1 0 2 ∷ []) (at (pos 9) (pos 9) o) ≡ astray
+  pub lies_second : lies (places (and 10 10 0)) six (at (pos 9) (pos 9) o) ≡ on 5
+  pub lies_border : lies (places (and 10 10 0)) six (at (pos 5) (pos 5) o) ≡ on 0
+  pub lies_astray : lies (places block) (face 1 0 2 ∷ []) (at (pos 9) (pos 9) o) ≡ astray
 
 pub blocks : Blocks
-unfolding hull build step seen unseen volume visible faceVol Vol inLine normal lies worst holds firstHolding firstPlane contains inTriangle onSegment
+unfolding hull build step seen unseen volume visible face_vol Vol in_line normal lies worst holds first_holding first_plane contains in_triangle on_segment
 blocks = record {
   T = record { faces = refl; size = refl };
   corner = record { faces = refl; size = refl };
   edge_on = record { faces = refl; size = refl };
-  in-line = record { faces = refl; size = refl };
+  in_line = record { faces = refl; size = refl };
   within = record { faces = refl; size = refl };
-  on-face = record { faces = refl; size = refl };
+  on_face = record { faces = refl; size = refl };
   repeated = record { faces = refl; size = refl };
   wide = record { faces = refl; size = refl };
   flat = refl;
-  lies-inside = refl;
-  lies-on = refl;
-  lies-outside = refl;
-  lies-beyond = refl;
-  lies-worst = refl;
-  lies-second = refl;
-  lies-border = refl;
-  lies-astray = refl;
+  lies_inside = refl;
+  lies_on = refl;
+  lies_outside = refl;
+  lies_beyond = refl;
+  lies_worst = refl;
+  lies_second = refl;
+  lies_border = refl;
+  lies_astray = refl;
 }

@@ -10,8 +10,8 @@ use lib.ListN.{length, drop, get_or, drop_of_length-le}
 use lib.IntN.{ℤ, pos, negsuc, neg_ℤ}
 use lib.Signed.{◌<ℤ◌, le_z}
 use Rattle.laws.specs.Fractions.{compared}
-use Rattle.laws.proofs.Order.{nat-not-neg}
-use Rattle.laws.proofs.Fractions.{compared-two}
+use Rattle.laws.proofs.Order.{nat_not_neg}
+use Rattle.laws.proofs.Fractions.{compared_two}
 use Rattle.rules.specs.Faces.{Face, Places}
 use Rattle.rules.specs.Plumb.{facing, rest, Fraction, less, more, Bounds, tighter, bounded, bounds, misses, touches, through, between}
 
@@ -21,29 +21,29 @@ turn_up (pos zero) r b l = absurd l.lt
 turn_up (pos (suc n)) r b l = refl
 turn_up (negsuc n) r b l = absurd l.lt
 
-pub turn-down : (s r : ℤ) (b : Bounds) → s <ℤ pos 0 → bounded s r b ≡ record { admits = b.admits; above = b.above; below = tighter more b.below (record { top = neg_ℤ r; bottom = neg_ℤ s }) }
-turn-down (pos n) r b l = absurd (nat-not-neg n l)
-turn-down (negsuc n) r b l = refl
+pub turn_down : (s r : ℤ) (b : Bounds) → s <ℤ pos 0 → bounded s r b ≡ record { admits = b.admits; above = b.above; below = tighter more b.below (record { top = neg_ℤ r; bottom = neg_ℤ s }) }
+turn_down (pos n) r b l = absurd (nat_not_neg n l)
+turn_down (negsuc n) r b l = refl
 
-pub turn-upright : (s r : ℤ) (b : Bounds) → s ≡ pos 0 → bounded s r b ≡ record { admits = b.admits && le_z (pos 0) r; above = b.above; below = b.below }
-turn-upright s r b e = ap (λ (t : ℤ). bounded t r b) e
+pub turn_upright : (s r : ℤ) (b : Bounds) → s ≡ pos 0 → bounded s r b ≡ record { admits = b.admits && le_z (pos 0) r; above = b.above; below = b.below }
+turn_upright s r b e = ap (λ (t : ℤ). bounded t r b) e
 
 -- ---- the faces from place i on
 module _ (p : Places) (x y : ℤ) (b : Bounds) (h : List Face) (i : ℕ) where
-  pub bounds-turn : (d : Face) → i < length h → bounds p x y b (drop i h) ≡ bounds p x y (bounded (facing p (get_or h i d)) (rest p x y (get_or h i d)) b) (drop (i + 1) h)
+  pub bounds_turn : (d : Face) → i < length h → bounds p x y b (drop i h) ≡ bounds p x y (bounded (facing p (get_or h i d)) (rest p x y (get_or h i d)) b) (drop (i + 1) h)
   unfolding bounds
-  bounds-turn d l = rw (add-one, drop-cons h i d)
+  bounds_turn d l = rw (add-one, drop-cons h i d)
 
-  pub bounds-end : length h ≤ i → bounds p x y b (drop i h) ≡ b
+  pub bounds_end : length h ≤ i → bounds p x y b (drop i h) ≡ b
   unfolding bounds
-  bounds-end l = ap (bounds p x y b) (drop_of_length-le h l)
+  bounds_end l = ap (bounds p x y b) (drop_of_length-le h l)
 
 -- ---- two fractions
-pub lesser-compared : (s t : Fraction) → tighter less (some s) t ≡ some (compared t.top t.bottom s.top s.bottom t s s)
-lesser-compared s t = ap some (sym (compared-two t.top t.bottom s.top s.bottom t s))
+pub lesser_compared : (s t : Fraction) → tighter less (some s) t ≡ some (compared t.top t.bottom s.top s.bottom t s s)
+lesser_compared s t = ap some (sym (compared_two t.top t.bottom s.top s.bottom t s))
 
-pub greater-compared : (s t : Fraction) → tighter more (some s) t ≡ some (compared s.top s.bottom t.top t.bottom t s s)
-greater-compared s t = ap some (sym (compared-two s.top s.bottom t.top t.bottom t s))
+pub greater_compared : (s t : Fraction) → tighter more (some s) t ≡ some (compared s.top s.bottom t.top t.bottom t s s)
+greater_compared s t = ap some (sym (compared_two s.top s.bottom t.top t.bottom t s))
 
-pub between-compared : (u l : Fraction) → between u l ≡ compared l.top l.bottom u.top u.bottom (through u l) (touches u) misses
-between-compared u l = refl
+pub between_compared : (u l : Fraction) → between u l ≡ compared l.top l.bottom u.top u.bottom (through u l) (touches u) misses
+between_compared u l = refl

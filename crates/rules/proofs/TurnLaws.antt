@@ -8,26 +8,26 @@ use Prim.Native.Nat.{zero, suc}
 use lib.Dec.{T}
 use lib.IntN.{ℤ, pos, negsuc, neg_ℤ, ◌*ℤ◌}
 use lib.Signed.{◌≤ℤ◌, ◌<ℤ◌, le_z, le_z_yes, lt_z_yes, lt_z_no}
-use Rattle.laws.proofs.Tests.{and_both, both-and}
-use Rattle.laws.proofs.Order.{≤-refl, <→≤, suc-pos, pos-ne, neg-ne, nat-not-neg, mul-nonneg, cancel-nonneg}
+use Rattle.laws.proofs.Tests.{and_both, both_and}
+use Rattle.laws.proofs.Order.{≤_refl, <→≤, suc_pos, pos_ne, neg_ne, nat_not_neg, mul_nonneg, cancel_nonneg}
 use Rattle.laws.proofs.Ring.{o, var, ◌:*◌, neg}
 use Rattle.laws.proofs.Certificates.{order, le}
 use Rattle.rules.specs.Plumb.{Fraction, less, more, height, Bounds, tighter, bounded}
 use Rattle.rules.specs.Heights.{Proper, AtMost, Way, up, down, Looks, bound, Admits}
-use Rattle.rules.proofs.HeightLaws.{at-most-trans}
+use Rattle.rules.proofs.HeightLaws.{at_most_trans}
 
 -- ---- which of two bounds is the tighter
 abbrev beats : Way → Fraction → Fraction → Bool
 beats up = less
 beats down = more
 
-pub admits-self : (w : Way) (s : Fraction) → Admits w s s
-admits-self up s = ≤-refl (s.top *ℤ s.bottom)
-admits-self down s = ≤-refl (s.top *ℤ s.bottom)
+pub admits_self : (w : Way) (s : Fraction) → Admits w s s
+admits_self up s = ≤_refl (s.top *ℤ s.bottom)
+admits_self down s = ≤_refl (s.top *ℤ s.bottom)
 
-admits-trans : (w : Way) (s t u : Fraction) → Proper s → Proper t → Proper u → Admits w s t → Admits w t u → Admits w s u
-admits-trans up s t u hs ht hu k l = at-most-trans s t u hs ht hu k l
-admits-trans down s t u hs ht hu k l = at-most-trans u t s hu ht hs l k
+admits_trans : (w : Way) (s t u : Fraction) → Proper s → Proper t → Proper u → Admits w s t → Admits w t u → Admits w s u
+admits_trans up s t u hs ht hu k l = at_most_trans s t u hs ht hu k l
+admits_trans down s t u hs ht hu k l = at_most_trans u t s hu ht hs l k
 
 -- what beats a bound is admitted by it, and admits it if it does not
 beaten : (w : Way) (s t : Fraction) → T (beats w t s) → Admits w t s
@@ -48,26 +48,26 @@ abbrev pub Known : Option Fraction → Type 0
 Known none = ⊥
 Known (some s) = Unit {0}
 
-tighter-known : (better : Fraction → Fraction → Bool) (a : Option Fraction) (t : Fraction) → Known (tighter better a t)
-tighter-known better none t = tt
-tighter-known better (some s) t = tt
+tighter_known : (better : Fraction → Fraction → Bool) (a : Option Fraction) (t : Fraction) → Known (tighter better a t)
+tighter_known better none t = tt
+tighter_known better (some s) t = tt
 
-tighter-has : (P : Fraction → Type 0) (better : Fraction → Fraction → Bool) (a : Option Fraction) (t : Fraction) → Has P a → P t → Has P (tighter better a t)
-tighter-has P better none t h k = k
-tighter-has P better (some s) t h k = go (better t s)
+tighter_has : (P : Fraction → Type 0) (better : Fraction → Fraction → Bool) (a : Option Fraction) (t : Fraction) → Has P a → P t → Has P (tighter better a t)
+tighter_has P better none t h k = k
+tighter_has P better (some s) t h k = go (better t s)
   where
     go : (b : Bool) → P (cond b t s)
     go true = k
     go false = h
 
 -- it admits what both admit
-tighter-admits : (w : Way) (a : Option Fraction) (z t : Fraction) → Proper z → Proper t → Has Proper a → Has (Admits w z) (tighter (beats w) a t) ↔ (Has (Admits w z) a × Admits w z t)
-tighter-admits w none z t hz ht d = ((λ h. (tt, h)), (λ h. h.1))
-tighter-admits w (some s) z t hz ht d = (go (beats w t s) (beaten w s t) (unbeaten w s t), (λ h. tighter-has (Admits w z) (beats w) (some s) t h.0 h.1))
+tighter_admits : (w : Way) (a : Option Fraction) (z t : Fraction) → Proper z → Proper t → Has Proper a → Has (Admits w z) (tighter (beats w) a t) ↔ (Has (Admits w z) a × Admits w z t)
+tighter_admits w none z t hz ht d = ((λ h. (tt, h)), (λ h. h.1))
+tighter_admits w (some s) z t hz ht d = (go (beats w t s) (beaten w s t) (unbeaten w s t), (λ h. tighter_has (Admits w z) (beats w) (some s) t h.0 h.1))
   where
     go : (b : Bool) → (T b → Admits w t s) → (T (not b) → Admits w s t) → Admits w z (cond b t s) → Admits w z s × Admits w z t
-    go true f g h = (admits-trans w z t s hz ht d h (f tt), h)
-    go false f g h = (h, admits-trans w z s t hz d ht h (g tt))
+    go true f g h = (admits_trans w z t s hz ht d h (f tt), h)
+    go false f g h = (h, admits_trans w z s t hz d ht h (g tt))
 
 -- ---- one face: it moves the bound of the way in which it looks, and no other
 data Turn (w : Way) (s r : ℤ) (b : Bounds) : Type 0 where
@@ -76,39 +76,39 @@ data Turn (w : Way) (s r : ℤ) (b : Bounds) : Type 0 where
 
 turn : (w : Way) (s r : ℤ) (b : Bounds) → Turn w s r b
 turn up (pos zero) r b = kept (λ l. l.lt) refl
-turn up (pos (suc n)) r b = moved (suc-pos n) refl
+turn up (pos (suc n)) r b = moved (suc_pos n) refl
 turn up (negsuc n) r b = kept (λ l. l.lt) refl
-turn down (pos zero) r b = kept (nat-not-neg 0) refl
-turn down (pos (suc n)) r b = kept (nat-not-neg (suc n)) refl
+turn down (pos zero) r b = kept (nat_not_neg 0) refl
+turn down (pos (suc n)) r b = kept (nat_not_neg (suc n)) refl
 turn down (negsuc n) r b = moved (record { lt = tt }) refl
 
-pub height-proper : (w : Way) (s r : ℤ) → Looks w s → Proper (height s r)
-height-proper up (pos n) r l = l
-height-proper up (negsuc n) r l = absurd l.lt
-height-proper down (pos n) r l = absurd (nat-not-neg n l)
-height-proper down (negsuc n) r l = suc-pos n
+pub height_proper : (w : Way) (s r : ℤ) → Looks w s → Proper (height s r)
+height_proper up (pos n) r l = l
+height_proper up (negsuc n) r l = absurd l.lt
+height_proper down (pos n) r l = absurd (nat_not_neg n l)
+height_proper down (negsuc n) r l = suc_pos n
 
 module _ (w : Way) (s r : ℤ) (b : Bounds) where
-  pub bounded-has : (P : Fraction → Type 0) → (Looks w s → P (height s r)) → Has P (bound w b) → Has P (bound w (bounded s r b))
-  bounded-has P k h = go (turn w s r b)
+  pub bounded_has : (P : Fraction → Type 0) → (Looks w s → P (height s r)) → Has P (bound w b) → Has P (bound w (bounded s r b))
+  bounded_has P k h = go (turn w s r b)
     where
       go : Turn w s r b → Has P (bound w (bounded s r b))
-      go (moved l e) = subst (Has P) (sym e) (tighter-has P (beats w) (bound w b) (height s r) h (k l))
+      go (moved l e) = subst (Has P) (sym e) (tighter_has P (beats w) (bound w b) (height s r) h (k l))
       go (kept n e) = subst (Has P) (sym e) h
 
-  pub bounded-known : Known (bound w b) ⊎ Looks w s → Known (bound w (bounded s r b))
-  bounded-known k = go (turn w s r b) k
+  pub bounded_known : Known (bound w b) ⊎ Looks w s → Known (bound w (bounded s r b))
+  bounded_known k = go (turn w s r b) k
     where
       go : Turn w s r b → Known (bound w b) ⊎ Looks w s → Known (bound w (bounded s r b))
-      go (moved l e) k = subst Known (sym e) (tighter-known (beats w) (bound w b) (height s r))
+      go (moved l e) k = subst Known (sym e) (tighter_known (beats w) (bound w b) (height s r))
       go (kept n e) (inl k) = subst Known (sym e) k
       go (kept n e) (inr l) = absurd (n l)
 
-  pub bounded-admits : (z : Fraction) → Proper z → Has Proper (bound w b) → Has (Admits w z) (bound w (bounded s r b)) ↔ (Has (Admits w z) (bound w b) × (Looks w s → Admits w z (height s r)))
-  bounded-admits z hz d = go (turn w s r b)
+  pub bounded_admits : (z : Fraction) → Proper z → Has Proper (bound w b) → Has (Admits w z) (bound w (bounded s r b)) ↔ (Has (Admits w z) (bound w b) × (Looks w s → Admits w z (height s r)))
+  bounded_admits z hz d = go (turn w s r b)
     where
       go : Turn w s r b → Has (Admits w z) (bound w (bounded s r b)) ↔ (Has (Admits w z) (bound w b) × (Looks w s → Admits w z (height s r)))
-      go (moved l e) = let t = tighter-admits w (bound w b) z (height s r) hz (height-proper w s r l) d in (
+      go (moved l e) = let t = tighter_admits w (bound w b) z (height s r) hz (height_proper w s r l) d in (
         (λ a. let c = t.0 (subst (Has (Admits w z)) e a) in (c.0, (λ k. c.1))),
         (λ c. subst (Has (Admits w z)) (sym e) (t.1 (c.0, c.1 l))),
       )
@@ -116,46 +116,46 @@ module _ (w : Way) (s r : ℤ) (b : Bounds) where
 
 -- ---- an upright face looks neither way, and admits the line or not
 level : (w : Way) (s : ℤ) → s ≡ pos 0 → Looks w s → ⊥
-level up s e l = pos-ne l e
-level down s e l = neg-ne l e
+level up s e l = pos_ne l e
+level down s e l = neg_ne l e
 
-pub bounded-upright : (s r : ℤ) (b : Bounds) → T (bounded s r b).admits ↔ (T b.admits × (s ≡ pos 0 → pos 0 ≤ℤ r))
-bounded-upright (pos zero) r b = (
+pub bounded_upright : (s r : ℤ) (b : Bounds) → T (bounded s r b).admits ↔ (T b.admits × (s ≡ pos 0 → pos 0 ≤ℤ r))
+bounded_upright (pos zero) r b = (
   (λ a. let w = and_both b.admits (le_z (pos 0) r) a in (w.0, (λ e. le_z_yes w.1))),
-  (λ c. both-and b.admits (le_z (pos 0) r) c.0 (c.1 refl).le),
+  (λ c. both_and b.admits (le_z (pos 0) r) c.0 (c.1 refl).le),
 )
-bounded-upright (pos (suc n)) r b = ((λ a. (a, (λ e. absurd (level up (pos (suc n)) e (suc-pos n))))), (λ c. c.0))
-bounded-upright (negsuc n) r b = ((λ a. (a, (λ e. absurd (level down (negsuc n) e (record { lt = tt }))))), (λ c. c.0))
+bounded_upright (pos (suc n)) r b = ((λ a. (a, (λ e. absurd (level up (pos (suc n)) e (suc_pos n))))), (λ c. c.0))
+bounded_upright (negsuc n) r b = ((λ a. (a, (λ e. absurd (level down (negsuc n) e (record { lt = tt }))))), (λ c. c.0))
 
 -- a height a/b is on or behind a face, facing·a ≤ rest·b, exactly if the face admits the line and the height
-level-admits : (r a b : ℤ) → pos 0 <ℤ b → ((pos 0 *ℤ a) ≤ℤ (r *ℤ b)) ↔ (pos 0 ≤ℤ r)
-level-admits r a b hb = (
-  (λ h. cancel-nonneg hb (order (r ∷ a ∷ b ∷ []) (le 1 (o :* var 1) (var 0 :* var 2) ∷ []) 0 o (var 2 :* var 0) tt h)),
-  (λ h. order (r ∷ a ∷ b ∷ []) (le 1 o (var 0 :* var 2) ∷ []) 0 (o :* var 1) (var 0 :* var 2) tt (mul-nonneg h (<→≤ hb))),
+level_admits : (r a b : ℤ) → pos 0 <ℤ b → ((pos 0 *ℤ a) ≤ℤ (r *ℤ b)) ↔ (pos 0 ≤ℤ r)
+level_admits r a b hb = (
+  (λ h. cancel_nonneg hb (order (r ∷ a ∷ b ∷ []) (le 1 (o :* var 1) (var 0 :* var 2) ∷ []) 0 o (var 2 :* var 0) tt h)),
+  (λ h. order (r ∷ a ∷ b ∷ []) (le 1 o (var 0 :* var 2) ∷ []) 0 (o :* var 1) (var 0 :* var 2) tt (mul_nonneg h (<→≤ hb))),
 )
 
-up-admits : (r a b m : ℤ) → ((m *ℤ a) ≤ℤ (r *ℤ b)) ↔ ((a *ℤ m) ≤ℤ (r *ℤ b))
-up-admits r a b m = (
+up_admits : (r a b m : ℤ) → ((m *ℤ a) ≤ℤ (r *ℤ b)) ↔ ((a *ℤ m) ≤ℤ (r *ℤ b))
+up_admits r a b m = (
   order (r ∷ a ∷ b ∷ m ∷ []) (le 1 (var 3 :* var 1) (var 0 :* var 2) ∷ []) 0 (var 1 :* var 3) (var 0 :* var 2) tt,
   order (r ∷ a ∷ b ∷ m ∷ []) (le 1 (var 1 :* var 3) (var 0 :* var 2) ∷ []) 0 (var 3 :* var 1) (var 0 :* var 2) tt,
 )
 
-down-admits : (r a b m : ℤ) → ((neg_ℤ m *ℤ a) ≤ℤ (r *ℤ b)) ↔ ((neg_ℤ r *ℤ b) ≤ℤ (a *ℤ m))
-down-admits r a b m = (
+down_admits : (r a b m : ℤ) → ((neg_ℤ m *ℤ a) ≤ℤ (r *ℤ b)) ↔ ((neg_ℤ r *ℤ b) ≤ℤ (a *ℤ m))
+down_admits r a b m = (
   order (r ∷ a ∷ b ∷ m ∷ []) (le 1 (neg (var 3) :* var 1) (var 0 :* var 2) ∷ []) 0 (neg (var 0) :* var 2) (var 1 :* var 3) tt,
   order (r ∷ a ∷ b ∷ m ∷ []) (le 1 (neg (var 0) :* var 2) (var 1 :* var 3) ∷ []) 0 (neg (var 3) :* var 1) (var 0 :* var 2) tt,
 )
 
-pub face-admits : (s r : ℤ) (z : Fraction) → Proper z → ((s *ℤ z.top) ≤ℤ (r *ℤ z.bottom)) ↔ ((s ≡ pos 0 → pos 0 ≤ℤ r) × ((w : Way) → Looks w s → Admits w z (height s r)))
-face-admits (pos zero) r z hz = let c = level-admits r z.top z.bottom hz in ((λ h. ((λ e. c.0 h), (λ w l. absurd (level w (pos 0) refl l)))), (λ k. c.1 (k.0 refl)))
-face-admits (pos (suc n)) r z hz =
-    let c = up-admits r z.top z.bottom (pos (suc n)) in ((λ h. ((λ e. absurd (level up (pos (suc n)) e (suc-pos n))), way (c.0 h))), (λ k. c.1 (k.1 up (suc-pos n))))
+pub face_admits : (s r : ℤ) (z : Fraction) → Proper z → ((s *ℤ z.top) ≤ℤ (r *ℤ z.bottom)) ↔ ((s ≡ pos 0 → pos 0 ≤ℤ r) × ((w : Way) → Looks w s → Admits w z (height s r)))
+face_admits (pos zero) r z hz = let c = level_admits r z.top z.bottom hz in ((λ h. ((λ e. c.0 h), (λ w l. absurd (level w (pos 0) refl l)))), (λ k. c.1 (k.0 refl)))
+face_admits (pos (suc n)) r z hz =
+    let c = up_admits r z.top z.bottom (pos (suc n)) in ((λ h. ((λ e. absurd (level up (pos (suc n)) e (suc_pos n))), way (c.0 h))), (λ k. c.1 (k.1 up (suc_pos n))))
   where
     way : AtMost z (height (pos (suc n)) r) → (w : Way) → Looks w (pos (suc n)) → Admits w z (height (pos (suc n)) r)
     way h up l = h
-    way h down l = absurd (nat-not-neg (suc n) l)
-face-admits (negsuc n) r z hz =
-    let c = down-admits r z.top z.bottom (pos (suc n)) in ((λ h. ((λ e. absurd (level down (negsuc n) e (record { lt = tt }))), way (c.0 h))), (λ k. c.1 (k.1 down (record { lt = tt }))))
+    way h down l = absurd (nat_not_neg (suc n) l)
+face_admits (negsuc n) r z hz =
+    let c = down_admits r z.top z.bottom (pos (suc n)) in ((λ h. ((λ e. absurd (level down (negsuc n) e (record { lt = tt }))), way (c.0 h))), (λ k. c.1 (k.1 down (record { lt = tt }))))
   where
     way : AtMost (height (negsuc n) r) z → (w : Way) → Looks w (negsuc n) → Admits w z (height (negsuc n) r)
     way h up l = absurd l.lt

@@ -1,9 +1,9 @@
 -- 01 'Building', 3 and 4: one step, the hull, and its volume.
 use Rattle.std.specs.Prelude.{not, List, [], ◌∷◌, ◌++◌, map, ℕ, ℤ}
 use Rattle.std.proofs.Math.Option.{Option, some}
-use Rattle.laws.specs.Lists.{keep, upward, sumZ}
-use Rattle.rules.specs.Faces.{Face, Places, Side, faceVol, visible, border}
-use Rattle.rules.specs.Start.{Start, then, start, corners, startFaces, isStart}
+use Rattle.laws.specs.Lists.{keep, upward, sum_z}
+use Rattle.rules.specs.Faces.{Face, Places, Side, face_vol, visible, border}
+use Rattle.rules.specs.Start.{Start, then, start, corners, start_faces, is_start}
 
 -- the new face (a,b,k) on a side a→b of the border
 abbrev pub cone : ℕ → Side → Face
@@ -26,11 +26,11 @@ build p h (k ∷ ks) = build p (step p h k) ks
 
 -- the faces after the start and the touches ks
 abbrev pub after : Places → Start → List ℕ → List Face
-after p s ks = build p (startFaces (corners p s)) ks
+after p s ks = build p (start_faces (corners p s)) ks
 
 -- every touch that is not of the start, by rising number
 abbrev pub others : Start → ℕ → List ℕ
-others s n = keep (λ k. not (isStart s k)) (upward 0 n)
+others s n = keep (λ k. not (is_start s k)) (upward 0 n)
 
 -- the face list of the first n touches; none where they are flat
 unfoldable pub hull : Places → ℕ → Option (List Face)
@@ -38,4 +38,4 @@ hull p n = then (start p n) (λ s. some (after p s (others s n)))
 
 -- six times the true volume: the sum of V(face, touch 0)
 unfoldable pub volume : Places → List Face → ℤ
-volume p h = sumZ (λ f. faceVol p f (p 0)) h
+volume p h = sum_z (λ f. face_vol p f (p 0)) h

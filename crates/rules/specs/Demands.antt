@@ -2,11 +2,11 @@
 use Rattle.std.specs.Prelude.{◌≡◌, ◌↔◌, false, not, List, [], ℕ, ◌+◌, ◌≤◌, ◌<◌, T, length, ℤ, pos, ◌≤ℤ◌, ◌<ℤ◌}
 use Rattle.std.proofs.Math.Option.{Option, none, some}
 use Rattle.std.specs.Int.Signed.{lt_z}
-use Rattle.laws.specs.Lists.{In, Nodup, firstFrom, FirstAt, LeastAt}
+use Rattle.laws.specs.Lists.{In, Nodup, first_from, FirstAt, LeastAt}
 use Rattle.touches.specs.declared.Point.{Point}
-use Rattle.touches.specs.Touches.{touchCount}
-use Rattle.volume.specs.Volume.{Vol, inLine, is_zero}
-use Rattle.rules.specs.Faces.{Face, Places, corner, Side, reversed, faceVol, sides}
+use Rattle.touches.specs.Touches.{touch_count}
+use Rattle.volume.specs.Volume.{Vol, in_line, is_zero}
+use Rattle.rules.specs.Faces.{Face, Places, corner, Side, reversed, face_vol, sides}
 use Rattle.rules.specs.Start.{start}
 use Rattle.rules.specs.Building.{volume}
 use Rattle.rules.specs.Placing.{Lies, outside, on, inside, astray, holds}
@@ -29,27 +29,27 @@ pub record CornersIn (M : ℕ → Type 0) (f : Face) : Type 0 where
 
 -- f is a face over the touches of a coordinate list
 abbrev pub FaceOf : List ℤ → Face → Type 0
-FaceOf cs f = CornersIn (λ k. k < touchCount cs) f
+FaceOf cs f = CornersIn (λ k. k < touch_count cs) f
 
 -- q is behind every face
 abbrev pub Inside : Places → List Face → Point → Type 0
-Inside p h q = (f : Face) → In f h → pos 0 <ℤ faceVol p f q
+Inside p h q = (f : Face) → In f h → pos 0 <ℤ face_vol p f q
 
 -- q is on or behind every face
 abbrev pub OnOrInside : Places → List Face → Point → Type 0
-OnOrInside p h q = (f : Face) → In f h → pos 0 ≤ℤ faceVol p f q
+OnOrInside p h q = (f : Face) → In f h → pos 0 ≤ℤ face_vol p f q
 
 -- q is on the plane of a face
 abbrev pub OnPlane : Places → List Face → Point → Type 0
-OnPlane p h q = (f : Face) × In f h × (faceVol p f q ≡ pos 0)
+OnPlane p h q = (f : Face) × In f h × (face_vol p f q ≡ pos 0)
 
 -- q is in front of a face
 abbrev pub Outside : Places → List Face → Point → Type 0
-Outside p h q = (f : Face) × In f h × (faceVol p f q <ℤ pos 0)
+Outside p h q = (f : Face) × In f h × (face_vol p f q <ℤ pos 0)
 
 -- 02 A7: face number i is the worst, with V at v: no face has less, and every face before it has more
 abbrev pub Worst : Places → List Face → Point → ℕ → ℤ → Type 0
-Worst p h q i v = LeastAt (λ f. faceVol p f q) [] h i v
+Worst p h q i v = LeastAt (λ f. face_vol p f q) [] h i v
 
 -- 02 A5: face number i is the first that holds q
 abbrev pub FirstHolding : Places → List Face → Point → ℕ → Type 0
@@ -63,13 +63,13 @@ Astray p h q = OnOrInside p h q × OnPlane p h q × ((f : Face) → In f h → T
 pub data Case : Type 0 where
   outsideCase onCase insideCase : Case
 
-abbrev pub byFirsts : Option ℕ → Option ℕ → Case
-byFirsts (some f) o = outsideCase
-byFirsts none (some f) = onCase
-byFirsts none none = insideCase
+abbrev pub by_firsts : Option ℕ → Option ℕ → Case
+by_firsts (some f) o = outsideCase
+by_firsts none (some f) = onCase
+by_firsts none none = insideCase
 
-abbrev pub caseBefore : Places → List Face → Point → Case
-caseBefore p h q = byFirsts (firstFrom (λ f. lt_z (faceVol p f q) (pos 0)) 0 h) (firstFrom (λ f. is_zero (faceVol p f q)) 0 h)
+abbrev pub case_before : Places → List Face → Point → Case
+case_before p h q = by_firsts (first_from (λ f. lt_z (face_vol p f q) (pos 0)) 0 h) (first_from (λ f. is_zero (face_vol p f q)) 0 h)
 
 abbrev pub case_of : Lies → Case
 case_of (outside i d) = outsideCase
@@ -82,8 +82,8 @@ pub record Surface (p : Places) (n : ℕ) (h : List Face) : Type 0 where
   pub closed : Closed h
   pub corners : (f : Face) → In f h → CornersIn (λ t. t < n) f
   pub behind : (t : ℕ) → t < n → OnOrInside p h (p t)
-  pub body : (f : Face) → In f h → (t : ℕ) × (t < n) × (pos 0 <ℤ faceVol p f (p t))
-  pub off-line : (f : Face) → In f h → inLine (p (corner f 0)) (p (corner f 1)) (p (corner f 2)) ≡ false
+  pub body : (f : Face) → In f h → (t : ℕ) × (t < n) × (pos 0 <ℤ face_vol p f (p t))
+  pub off_line : (f : Face) → In f h → in_line (p (corner f 0)) (p (corner f 1)) (p (corner f 2)) ≡ false
   pub positive : pos 0 <ℤ volume p h
 
 -- demand 3: h is the face list of n touches, at p, and g that of these and m more, at r

@@ -17,12 +17,12 @@ abbrev pub Places : Type 0
 Places = ℕ → Point
 
 -- V(face, q)
-unfoldable pub faceVol : Places → Face → Point → ℤ
-faceVol p f q = Vol (p (corner f 0)) (p (corner f 1)) (p (corner f 2)) q
+unfoldable pub face_vol : Places → Face → Point → ℤ
+face_vol p f q = Vol (p (corner f 0)) (p (corner f 1)) (p (corner f 2)) q
 
 -- touch k is strictly in front of face f; edge-on does not count
 unfoldable pub visible : Places → ℕ → Face → Bool
-visible p k f = lt_z (faceVol p f (p k)) (pos 0)
+visible p k f = lt_z (face_vol p f (p k)) (pos 0)
 
 pub record Side : Type 0 where
   pub from : ℕ
@@ -34,17 +34,17 @@ side a b = record { from = a; to = b }
 abbrev pub reversed : Side → Side
 reversed s = side s.to s.from
 
-abbrev pub sameSide : Side → Side → Bool
-sameSide s t = eqb s.from t.from && eqb s.to t.to
+abbrev pub same_side : Side → Side → Bool
+same_side s t = eqb s.from t.from && eqb s.to t.to
 
 -- a→b, b→c, c→a
-abbrev pub sidesOf : Face → List Side
-sidesOf f = side (corner f 0) (corner f 1) ∷ side (corner f 1) (corner f 2) ∷ side (corner f 2) (corner f 0) ∷ []
+abbrev pub sides_of : Face → List Side
+sides_of f = side (corner f 0) (corner f 1) ∷ side (corner f 1) (corner f 2) ∷ side (corner f 2) (corner f 0) ∷ []
 
 abbrev pub sides : List Face → List Side
 sides [] = []
-sides (f ∷ h) = sidesOf f ++ sides h
+sides (f ∷ h) = sides_of f ++ sides h
 
 -- the sides of the faces v whose reverse is no side of one of them, face by face and side by side
 abbrev pub border : List Face → List Side
-border v = keep (λ s. not (has sameSide (reversed s) (sides v))) (sides v)
+border v = keep (λ s. not (has same_side (reversed s) (sides v))) (sides v)

@@ -4,8 +4,8 @@ use Rattle.std.proofs.Math.Option.{Option, some}
 use Rattle.laws.specs.Numbers.{Within}
 use Rattle.laws.specs.Lists.{In}
 use Rattle.touches.specs.declared.Point.{Point}
-use Rattle.volume.specs.Volume.{mostNormal, mostVolume}
-use Rattle.rules.specs.Faces.{Face, Places, faceVol}
+use Rattle.volume.specs.Volume.{most_normal, most_volume}
+use Rattle.rules.specs.Faces.{Face, Places, face_vol}
 use Rattle.rules.specs.Plumb.{facing, rest, Fraction, height, Bounds, unbounded, bounds, Plumb, misses, touches, through}
 
 abbrev pub over : ℤ → ℤ → ℤ → Point
@@ -27,12 +27,12 @@ abbrev pub Equal : Fraction → Fraction → Type 0
 Equal s t = s.top *ℤ t.bottom ≡ t.top *ℤ s.bottom
 
 -- V(face, q) times t's bottom, q being over x and y at height t: along the line V changes evenly, as from height 0 to height 1
-abbrev pub volAt : Places → Face → ℤ → ℤ → Fraction → ℤ
-volAt p f x y t = faceVol p f (over x y (pos 0)) *ℤ t.bottom +ℤ (faceVol p f (over x y (pos 1)) -ℤ faceVol p f (over x y (pos 0))) *ℤ t.top
+abbrev pub vol_at : Places → Face → ℤ → ℤ → Fraction → ℤ
+vol_at p f x y t = face_vol p f (over x y (pos 0)) *ℤ t.bottom +ℤ (face_vol p f (over x y (pos 1)) -ℤ face_vol p f (over x y (pos 0))) *ℤ t.top
 
 -- at height t the line is on or behind every face
 abbrev pub OnOrInsideAt : Places → List Face → ℤ → ℤ → Fraction → Type 0
-OnOrInsideAt p h x y t = (f : Face) → In f h → pos 0 ≤ℤ volAt p f x y t
+OnOrInsideAt p h x y t = (f : Face) → In f h → pos 0 ≤ℤ vol_at p f x y t
 
 -- it is so exactly from l to u
 pub record Stretch (p : Places) (h : List Face) (x y : ℤ) (l u : Fraction) : Type 0 where
@@ -86,5 +86,5 @@ pub record Spans (p : Places) (h : List Face) (x y : ℤ) (l u : Fraction) : Typ
 
 -- both numbers are of the size that V and a part of a normal have within range
 pub record Fits (t : Fraction) : Type 0 where
-  pub top : Within mostVolume t.top
-  pub bottom : Within mostNormal t.bottom
+  pub top : Within most_volume t.top
+  pub bottom : Within most_normal t.bottom

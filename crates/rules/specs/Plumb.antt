@@ -7,19 +7,19 @@ use Rattle.volume.specs.Volume.{normal, offset}
 use Rattle.rules.specs.Faces.{Face, Places, corner}
 
 -- each face's plane as whole numbers
-unfoldable pub faceNormal : Places → Face → Point
-faceNormal p f = normal (p (corner f 0)) (p (corner f 1)) (p (corner f 2))
+unfoldable pub face_normal : Places → Face → Point
+face_normal p f = normal (p (corner f 0)) (p (corner f 1)) (p (corner f 2))
 
-unfoldable pub faceOffset : Places → Face → ℤ
-faceOffset p f = offset (p (corner f 0)) (p (corner f 1)) (p (corner f 2))
+unfoldable pub face_offset : Places → Face → ℤ
+face_offset p f = offset (p (corner f 0)) (p (corner f 1)) (p (corner f 2))
 
 -- which way it looks: above 0 it looks up, below 0 it looks down, at 0 it is upright
 abbrev pub facing : Places → Face → ℤ
-facing p f = (faceNormal p f).z
+facing p f = (face_normal p f).z
 
 -- what is left of the offset at x and y for the height
 abbrev pub rest : Places → ℤ → ℤ → Face → ℤ
-rest p x y f = faceOffset p f -ℤ (faceNormal p f).x *ℤ x -ℤ (faceNormal p f).y *ℤ y
+rest p x y f = face_offset p f -ℤ (face_normal p f).x *ℤ x -ℤ (face_normal p f).y *ℤ y
 
 -- a height is the quotient of two whole numbers, the bottom one above 0
 pub record Fraction : Type 0 where

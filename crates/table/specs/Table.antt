@@ -1,7 +1,7 @@
 -- 01 'Numbers': how a lent table holds faces. Only this file and the constant of the code say how many numbers a face takes there.
 use Rattle.std.specs.Prelude.{Bool, not, ◌&&◌, List, [], ◌∷◌, ◌++◌, map, ℕ, ◌+◌, ◌*◌, ◌/◌, ◌%◌, eqb, leb, ltb, length, take, get_or}
 use Rattle.laws.specs.Lists.{every, upward, lay}
-use Rattle.touches.specs.Limits.{mostFaces}
+use Rattle.touches.specs.Limits.{most_faces}
 use Rattle.touches.specs.Check.{pick}
 use Rattle.rules.specs.Faces.{Face, corner}
 
@@ -21,15 +21,15 @@ lent [] = []
 lent (f ∷ h) = numbers f ++ lent h
 
 -- the part of a table that holds its first n faces
-abbrev pub firstFaces : ℕ → List ℕ → List ℕ
-firstFaces n t = take (n * stride) t
+abbrev pub first_faces : ℕ → List ℕ → List ℕ
+first_faces n t = take (n * stride) t
 
 -- face number i of a table, and all its faces
-abbrev pub faceAt : List ℕ → ℕ → Face
-faceAt t i = get_or t (i * stride) 0 ∷ get_or t (i * stride + 1) 0 ∷ get_or t (i * stride + 2) 0 ∷ []
+abbrev pub face_at : List ℕ → ℕ → Face
+face_at t i = get_or t (i * stride) 0 ∷ get_or t (i * stride + 1) 0 ∷ get_or t (i * stride + 2) 0 ∷ []
 
-unfoldable pub facesIn : List ℕ → List Face
-facesIn t = map (faceAt t) (upward 0 (room t))
+unfoldable pub faces_in : List ℕ → List Face
+faces_in t = map (face_at t) (upward 0 (room t))
 
 -- the table once the faces h were put over its first part; as it was where they have no room
 abbrev pub put_over : List Face → List ℕ → List ℕ
@@ -41,4 +41,4 @@ among n f = ltb (corner f 0) n && ltb (corner f 1) n && ltb (corner f 2) n
 
 -- what refusal 6 asks of a table: not empty, only whole faces, not too many, each over the n touches
 unfoldable pub usable : ℕ → List ℕ → Bool
-usable n t = not (eqb (length t) 0) && eqb (length t % stride) 0 && leb (room t) mostFaces && every (among n) (facesIn t)
+usable n t = not (eqb (length t) 0) && eqb (length t % stride) 0 && leb (room t) most_faces && every (among n) (faces_in t)

@@ -1,9 +1,9 @@
 // The lent face table. No other crate knows how many numbers a face takes in it.
 ghost use Rattle.std.specs.Prelude.{◌≡◌, ◌+◌, ◌*◌, ◌≤◌, leb, ltb, length, get_or};
 ghost use Rattle.laws.specs.Lists.{every, lay, Laid};
-ghost use Rattle.touches.specs.Limits.{mostFaces};
+ghost use Rattle.touches.specs.Limits.{most_faces};
 ghost use Rattle.touches.specs.Touches.{plain};
-ghost use Rattle.table.specs.Table.{stride, room, numbers, lent, faceAt, facesIn, put_over, among, usable};
+ghost use Rattle.table.specs.Table.{stride, room, numbers, lent, face_at, faces_in, put_over, among, usable};
 
 use touches::{FaceNo, TouchList, TouchNo};
 
@@ -38,7 +38,7 @@ fn number(faces: &[u16], i: usize) -> u16
 
 // The corners of face f.
 pub fn face(faces: &[u16], f: FaceNo) -> [TouchNo; 3]
-    ensures { plain result ≡ faceAt faces.now f.0 }
+    ensures { plain result ≡ face_at faces.now f.0 }
 {
     let n = f.0;
     let at = n as usize * STRIDE;
@@ -99,8 +99,8 @@ fn is_among(f: [TouchNo; 3], n: usize) -> bool
 
 // Each corner of each face is one of n touches.
 fn all_among(faces: &[u16], n: usize) -> bool
-    requires { room faces.now ≤ mostFaces }
-    ensures { result ≡ every (among n) (facesIn faces.now) }
+    requires { room faces.now ≤ most_faces }
+    ensures { result ≡ every (among n) (faces_in faces.now) }
 {
     let m = room(faces);
     let mut i: usize = 0;

@@ -8,46 +8,46 @@ use native.Mathlib.Omega.{arith}
 use borrow.Author.Tests.{ltb-true, ltb-false, lt-ltb, le-ltb}
 use lib.Dec.{ltb}
 use lib.ListN.{length, length-append}
-use Rattle.text.specs.Decimal.{digit, lastDigits, decimal}
+use Rattle.text.specs.Decimal.{digit, last_digits, decimal}
 
 module _ (k n : ℕ) where
-  by : {b : Bool} → ltb n 10 ≡ b → lastDigits (suc k) n ≡ (elim b as (λ c. List ℕ) [ true ↦ digit n ∷ [] | false ↦ lastDigits k (n / 10) ++ (digit (n % 10) ∷ []) ])
-  by t = ap (λ (b : Bool). elim b as (λ c. List ℕ) [ true ↦ digit n ∷ [] | false ↦ lastDigits k (n / 10) ++ (digit (n % 10) ∷ []) ]) t
+  by : {b : Bool} → ltb n 10 ≡ b → last_digits (suc k) n ≡ (elim b as (λ c. List ℕ) [ true ↦ digit n ∷ [] | false ↦ last_digits k (n / 10) ++ (digit (n % 10) ∷ []) ])
+  by t = ap (λ (b : Bool). elim b as (λ c. List ℕ) [ true ↦ digit n ∷ [] | false ↦ last_digits k (n / 10) ++ (digit (n % 10) ∷ []) ]) t
 
-  digits-one : n < 10 → lastDigits (suc k) n ≡ digit n ∷ []
-  digits-one h = by (lt-ltb n 10 h)
+  digits_one : n < 10 → last_digits (suc k) n ≡ digit n ∷ []
+  digits_one h = by (lt-ltb n 10 h)
 
-  digits_more : 10 ≤ n → lastDigits (suc k) n ≡ lastDigits k (n / 10) ++ (digit (n % 10) ∷ [])
+  digits_more : 10 ≤ n → last_digits (suc k) n ≡ last_digits k (n / 10) ++ (digit (n % 10) ∷ [])
   digits_more h = by (le-ltb n 10 h)
 
 -- more digits asked for than a number has are none more
-digits_same : (k j n : ℕ) → n < k → n < j → lastDigits k n ≡ lastDigits j n
+digits_same : (k j n : ℕ) → n < k → n < j → last_digits k n ≡ last_digits j n
 digits_same zero j n h g = absurd (omega arith)
 digits_same (suc k) zero n h g = absurd (omega arith)
 digits_same (suc k) (suc j) n h g = go (ltb n 10) refl (λ a b. digits_same k j (n / 10) a b)
   where
-    go : (b : Bool) → ltb n 10 ≡ b → (n / 10 < k → n / 10 < j → lastDigits k (n / 10) ≡ lastDigits j (n / 10)) → lastDigits (suc k) n ≡ lastDigits (suc j) n
-    go true t r = let m = ltb-true n 10 t in digits-one k n m ∙ sym (digits-one j n m)
+    go : (b : Bool) → ltb n 10 ≡ b → (n / 10 < k → n / 10 < j → last_digits k (n / 10) ≡ last_digits j (n / 10)) → last_digits (suc k) n ≡ last_digits (suc j) n
+    go true t r = let m = ltb-true n 10 t in digits_one k n m ∙ sym (digits_one j n m)
     go false t r =
         let m = ltb-false n 10 t in
         digits_more k n m ∙ ap (λ (l : List ℕ). l ++ (digit (n % 10) ∷ [])) (r (omega arith) (omega arith)) ∙ sym (digits_more j n m)
 
 module _ (n : ℕ) where
-  pub decimal-one : n < 10 → decimal n ≡ digit n ∷ []
+  pub decimal_one : n < 10 → decimal n ≡ digit n ∷ []
   unfolding decimal
-  decimal-one h = digits-one n n h
+  decimal_one h = digits_one n n h
 
-  pub decimal-more : 10 ≤ n → decimal n ≡ decimal (n / 10) ++ (digit (n % 10) ∷ [])
+  pub decimal_more : 10 ≤ n → decimal n ≡ decimal (n / 10) ++ (digit (n % 10) ∷ [])
   unfolding decimal
-  decimal-more h = digits_more n n h ∙ ap (λ (l : List ℕ). l ++ (digit (n % 10) ∷ [])) (digits_same n (suc (n / 10)) (n / 10) (omega arith) (omega arith))
+  decimal_more h = digits_more n n h ∙ ap (λ (l : List ℕ). l ++ (digit (n % 10) ∷ [])) (digits_same n (suc (n / 10)) (n / 10) (omega arith) (omega arith))
 
 -- a number below a power of ten
-pub length-decimal : (k n : ℕ) → n < 10 ^ suc k → length (decimal n) ≤ suc k
-length-decimal zero n h = rw (decimal-one n h) (omega arith)
-length-decimal (suc k) n h = go (ltb n 10) refl (λ g. length-decimal k (n / 10) g)
+pub length_decimal : (k n : ℕ) → n < 10 ^ suc k → length (decimal n) ≤ suc k
+length_decimal zero n h = rw (decimal_one n h) (omega arith)
+length_decimal (suc k) n h = go (ltb n 10) refl (λ g. length_decimal k (n / 10) g)
   where
     go : (b : Bool) → ltb n 10 ≡ b → (n / 10 < 10 ^ suc k → length (decimal (n / 10)) ≤ suc k) → length (decimal n) ≤ suc (suc k)
-    go true t r = rw (decimal-one n (ltb-true n 10 t)) (omega arith)
+    go true t r = rw (decimal_one n (ltb-true n 10 t)) (omega arith)
     go false t r =
         let g : n / 10 < 10 ^ suc k = omega (arith, pow-suc 10 (suc k)) in
-        rw (decimal-more n (ltb-false n 10 t)) (simp length-append (omega (arith, r g)))
+        rw (decimal_more n (ltb-false n 10 t)) (simp length-append (omega (arith, r g)))

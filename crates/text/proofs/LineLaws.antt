@@ -10,7 +10,7 @@ use Rattle.text.specs.Decimal.{space, newline, line}
 regroup : (a b c : List ℕ) → a ++ (space ∷ []) ++ (b ++ (space ∷ [])) ++ (c ++ (newline ∷ [])) ≡ line (a ∷ b ∷ c ∷ [])
 regroup a b c = simp append_assoc
 
-pub laid-line : {at r s t : ℕ} {old first second after : List ℕ} (a b c : List ℕ) → at ≤ length old
+pub laid_line : {at r s t : ℕ} {old first second after : List ℕ} (a b c : List ℕ) → at ≤ length old
     → Laid at (a ++ (space ∷ [])) old r first → Laid r (b ++ (space ∷ [])) first s second → Laid s (c ++ (newline ∷ [])) second t after
     → Laid at (line (a ∷ b ∷ c ∷ [])) old t after
-laid-line a b c h p q u = rw (regroup a b c) at (laid_then (laid_then p h q) h u)
+laid_line a b c h p q u = rw (regroup a b c) at (laid_then (laid_then p h q) h u)

@@ -12,26 +12,26 @@ use Rattle.laws.proofs.Tables.{laid_none, laid_one, laid_then}
 use Rattle.text.specs.Room.{Put, Front}
 
 module _ {at r : ℕ} {new old after : List ℕ} where
-  pub put-laid : at + length new ≤ length old → Put at new old r after → Laid at new old r after
-  put-laid h p = rw (le-leb (at + length new) (length old) h) at p.laid
+  pub put_laid : at + length new ≤ length old → Put at new old r after → Laid at new old r after
+  put_laid h p = rw (le-leb (at + length new) (length old) h) at p.laid
 
-  pub laid-put : at + length new ≤ length old → Laid at new old r after → Put at new old r after
-  laid-put h p = record { laid = rw (le-leb (at + length new) (length old) h) p }
+  pub laid_put : at + length new ≤ length old → Laid at new old r after → Put at new old r after
+  laid_put h p = record { laid = rw (le-leb (at + length new) (length old) h) p }
 
-pub put-none : (at : ℕ) (new old : List ℕ) → length old < at + length new → Put at new old at old
-put-none at new old h = record { laid = rw (lt-leb (at + length new) (length old) h) (laid_none at old) }
+pub put_none : (at : ℕ) (new old : List ℕ) → length old < at + length new → Put at new old at old
+put_none at new old h = record { laid = rw (lt-leb (at + length new) (length old) h) (laid_none at old) }
 
 -- the next place is in the table
-pub laid-inside : {A : Type 0} {r : ℕ} {new old after : List A} → Laid 0 new old r after → r ≤ length after
+pub laid_inside : {A : Type 0} {r : ℕ} {new old after : List A} → Laid 0 new old r after → r ≤ length after
 unfolding lay
-laid-inside {A} {r} {new} {old} h = rw h.table (simp length-append (omega (arith, h.next)))
+laid_inside {A} {r} {new} {old} h = rw h.table (simp length-append (omega (arith, h.next)))
 
 pub put_front : {r : ℕ} {new old after : List ℕ} → Put 0 new old r after → Front r after
-put_front {r} {after = after} p = let h = laid-inside p.laid in (h, sym (length-take-le r after h))
+put_front {r} {after = after} p = let h = laid_inside p.laid in (h, sym (length-take-le r after h))
 
 -- ---- a list laid an element a turn
-pub laid-start : {A : Type 0} (at : ℕ) (old : List A) → Laid at [] old (at + 0) old
-laid-start at old = let e : at + 0 ≡ at = omega arith in rw e (laid_none at old)
+pub laid_start : {A : Type 0} (at : ℕ) (old : List A) → Laid at [] old (at + 0) old
+laid_start at old = let e : at + 0 ≡ at = omega arith in rw e (laid_none at old)
 
 module _ {A : Type 0} {old mid : List A} (at : ℕ) (l : List A) (i : ℕ) where
   pub laid_next : (d v : A) → i < length l → at + i < length mid → at ≤ length old → v ≡ get_or l i d
@@ -41,5 +41,5 @@ module _ {A : Type 0} {old mid : List A} (at : ℕ) (l : List A) (i : ℕ) where
       let n : at + (i + 1) ≡ at + i + 1 = omega arith in
       rw (q, n) (laid_then p b (laid_one (at + i) v mid k))
 
-  pub laid-all : length l ≤ i → Laid at (take i l) old (at + i) mid → Laid at l old (at + i) mid
-  laid-all h p = rw (take_all i l h) at p
+  pub laid_all : length l ≤ i → Laid at (take i l) old (at + i) mid → Laid at l old (at + i) mid
+  laid_all h p = rw (take_all i l h) at p

@@ -5,13 +5,13 @@ abbrev pub digit : ℕ → ℕ
 digit d = 48 + d
 
 -- the last k digits of n, or all of them where there are fewer
-abbrev pub lastDigits : ℕ → ℕ → List ℕ
-lastDigits zero n = []
-lastDigits (suc k) n = elim (ltb n 10) [ true ↦ digit n ∷ [] | false ↦ lastDigits k (n / 10) ++ (digit (n % 10) ∷ []) ]
+abbrev pub last_digits : ℕ → ℕ → List ℕ
+last_digits zero n = []
+last_digits (suc k) n = elim (ltb n 10) [ true ↦ digit n ∷ [] | false ↦ last_digits k (n / 10) ++ (digit (n % 10) ∷ []) ]
 
 -- all digits of n, which has at most n + 1 of them: 0 for zero, else no leading zero
 unfoldable pub decimal : ℕ → List ℕ
-decimal n = lastDigits (suc n) n
+decimal n = last_digits (suc n) n
 
 abbrev pub minus : ℕ
 minus = 45

@@ -14,35 +14,35 @@ use Rattle.touches.specs.declared.TouchNo.{TouchNo}
 use Rattle.touches.specs.declared.Stray.{Stray}
 use Rattle.touches.specs.declared.Stray.TheVariants.{Nowhere, At}
 use Rattle.touches.specs.declared.Checked.TheVariants.{Refused}
-use Rattle.touches.specs.Limits.{mostTouches, reach, in_range}
-use Rattle.touches.specs.Touches.{touch, touchCount, touchNo, refusal, Near, Sound, FirstStray}
-use Rattle.touches.specs.Refusals.{coordinatesNotInThrees, tooManyTouches, coordinateOutOfRange, because}
-use Rattle.touches.specs.Check.{pick, strayFrom, ofStray, checked}
-use Rattle.touches.proofs.SoundLaws.{range-within, within-range, no_stray}
+use Rattle.touches.specs.Limits.{most_touches, reach, in_range}
+use Rattle.touches.specs.Touches.{touch, touch_count, touch_no, refusal, Near, Sound, FirstStray}
+use Rattle.touches.specs.Refusals.{coordinates_not_in_threes, too_many_touches, coordinate_out_of_range, because}
+use Rattle.touches.specs.Check.{pick, stray_from, of_stray, checked}
+use Rattle.touches.proofs.SoundLaws.{range_within, within_range, no_stray}
 
 -- ---- the first coordinate out of range
 -- it is number `at` of cs, and k is its touch, the list's first being coordinate number i
 record FirstOut (i : ℕ) (cs : List ℤ) (k : TouchNo) : Type 0 where
   at : ℕ
   among : at < length cs
-  of : k ≡ touchNo ((i + at) / 3)
+  of : k ≡ touch_no ((i + at) / 3)
   out : in_range (get_or cs at (pos 0)) ≡ false
   earlier : (m : ℕ) → m < at → in_range (get_or cs m (pos 0)) ≡ true
 
-first_out : (i : ℕ) (cs : List ℤ) (k : TouchNo) → strayFrom i cs ≡ At k → FirstOut i cs k
-unfolding strayFrom
+first_out : (i : ℕ) (cs : List ℤ) (k : TouchNo) → stray_from i cs ≡ At k → FirstOut i cs k
+unfolding stray_from
 first_out i [] k e = let z : ◌≡◌ {A = ℕ} 0 1 = cc in absurd (omega arith)
 first_out i (x ∷ cs) k e = go (λ f. first_out (suc i) cs k f) (in_range x) refl e
   where
-    go : (strayFrom (suc i) cs ≡ At k → FirstOut (suc i) cs k) → (b : Bool) → in_range x ≡ b → pick b (strayFrom (suc i) cs) (At (touchNo (i / 3))) ≡ At k → FirstOut i (x ∷ cs) k
+    go : (stray_from (suc i) cs ≡ At k → FirstOut (suc i) cs k) → (b : Bool) → in_range x ≡ b → pick b (stray_from (suc i) cs) (At (touch_no (i / 3))) ≡ At k → FirstOut i (x ∷ cs) k
     go later false f g =
-        let t : touchNo (i / 3) ≡ k = cc in
+        let t : touch_no (i / 3) ≡ k = cc in
         let z : i + 0 ≡ i = omega arith in
-        record { at = 0; among = omega arith; of = sym t ∙ ap (λ (j : ℕ). touchNo (j / 3)) (sym z); out = f; earlier = λ m l. absurd (omega arith) }
+        record { at = 0; among = omega arith; of = sym t ∙ ap (λ (j : ℕ). touch_no (j / 3)) (sym z); out = f; earlier = λ m l. absurd (omega arith) }
     go later true f g =
         let u = later g in
         let z : suc i + u.at ≡ i + suc u.at = omega arith in
-        record { at = suc u.at; among = omega (arith, u.among); of = u.of ∙ ap (λ (j : ℕ). touchNo (j / 3)) z; out = u.out; earlier = before u }
+        record { at = suc u.at; among = omega (arith, u.among); of = u.of ∙ ap (λ (j : ℕ). touch_no (j / 3)) z; out = u.out; earlier = before u }
       where
         before : (u : FirstOut (suc i) cs k) (m : ℕ) → m < suc u.at → in_range (get_or (x ∷ cs) m (pos 0)) ≡ true
         before u zero l = f
@@ -50,8 +50,8 @@ first_out i (x ∷ cs) k e = go (λ f. first_out (suc i) cs k f) (in_range x) re
 
 -- ---- the first touch out of range
 -- a coordinate of a touch in range is in range
-of-touch : (cs : List ℤ) (j : ℕ) → Near (touch cs (j / 3)) → Within reach (get_or cs j (pos 0))
-of-touch cs j h = go (j % 3) (omega arith) (omega arith)
+of_touch : (cs : List ℤ) (j : ℕ) → Near (touch cs (j / 3)) → Within reach (get_or cs j (pos 0))
+of_touch cs j h = go (j % 3) (omega arith) (omega arith)
   where
     at : {i : ℕ} → Within reach (get_or cs i (pos 0)) → j ≡ i → Within reach (get_or cs j (pos 0))
     at w e = rw e w
@@ -62,8 +62,8 @@ of-touch cs j h = go (j % 3) (omega arith) (omega arith)
     go (suc (suc zero)) e l = at h.z (omega arith)
     go (suc (suc (suc m))) e l = absurd (omega arith)
 
-stray-first : (cs : List ℤ) (k : TouchNo) → length cs % 3 ≡ 0 → strayFrom 0 cs ≡ At k → FirstStray cs k.0
-stray-first cs k w e = subst (FirstStray cs) (sym place) (record { among = omega (arith, o.among); far = far; earlier = earlier })
+stray_first : (cs : List ℤ) (k : TouchNo) → length cs % 3 ≡ 0 → stray_from 0 cs ≡ At k → FirstStray cs k.0
+stray_first cs k w e = subst (FirstStray cs) (sym place) (record { among = omega (arith, o.among); far = far; earlier = earlier })
   where
     o : FirstOut 0 cs k
     o = first_out 0 cs k e
@@ -75,16 +75,16 @@ stray-first cs k w e = subst (FirstStray cs) (sym place) (record { among = omega
     place = let z : 0 + j ≡ j = omega arith in ap (λ (t : TouchNo). t.0) o.of ∙ ap (λ (i : ℕ). i / 3) z
 
     far : Near (touch cs (j / 3)) → ⊥
-    far h = let e = within-range (get_or cs j (pos 0)) (of-touch cs j h) in let f = o.out in let z : ◌≡◌ {A = ℕ} 0 1 = cc in omega arith
+    far h = let e = within_range (get_or cs j (pos 0)) (of_touch cs j h) in let f = o.out in let z : ◌≡◌ {A = ℕ} 0 1 = cc in omega arith
 
     near : (i : ℕ) → i < j → Within reach (get_or cs i (pos 0))
-    near i l = range-within (get_or cs i (pos 0)) (o.earlier i l)
+    near i l = range_within (get_or cs i (pos 0)) (o.earlier i l)
 
     earlier : (t : ℕ) → t < j / 3 → Near (touch cs t)
     earlier t l = record { x = near (t * 3) (omega arith); y = near (t * 3 + 1) (omega arith); z = near (t * 3 + 2) (omega arith) }
 
-pub one-stray : {cs : List ℤ} {k l : ℕ} → FirstStray cs k → FirstStray cs l → k ≡ l
-one-stray {cs} {k} {l} u v = go (dec_le k l) (dec_le l k)
+pub one_stray : {cs : List ℤ} {k l : ℕ} → FirstStray cs k → FirstStray cs l → k ≡ l
+one_stray {cs} {k} {l} u v = go (dec_le k l) (dec_le l k)
   where
     go : Dec (k ≤ l) → Dec (l ≤ k) → k ≡ l
     go (yes a) (yes b) = omega arith
@@ -93,20 +93,20 @@ one-stray {cs} {k} {l} u v = go (dec_le k l) (dec_le l k)
 
 -- ---- the check
 module _ (cs : List ℤ) where
-  pub check-ragged : length cs % 3 ≢ 0 → checked cs ≡ Refused (because coordinatesNotInThrees)
-  check-ragged d = simp (ne_eqb (length cs % 3) 0 d)
+  pub check_ragged : length cs % 3 ≢ 0 → checked cs ≡ Refused (because coordinates_not_in_threes)
+  check_ragged d = simp (ne_eqb (length cs % 3) 0 d)
 
   module _ (w : length cs % 3 ≡ 0) where
-    pub check-many : mostTouches * 3 < length cs → checked cs ≡ Refused (because tooManyTouches)
-    check-many l = simp (eq-eqb (length cs % 3) 0 w, lt-leb (length cs) (mostTouches * 3) l)
+    pub check_many : most_touches * 3 < length cs → checked cs ≡ Refused (because too_many_touches)
+    check_many l = simp (eq-eqb (length cs % 3) 0 w, lt-leb (length cs) (most_touches * 3) l)
 
     -- a list of at most 64 whole touches has all in range, or is refused at the first that is not
-    pub check-stray : length cs ≤ mostTouches * 3 → Sound cs ⊎ ((k : ℕ) × FirstStray cs k × (checked cs ≡ Refused (refusal coordinateOutOfRange k)))
-    check-stray f = go (strayFrom 0 cs) refl
+    pub check_stray : length cs ≤ most_touches * 3 → Sound cs ⊎ ((k : ℕ) × FirstStray cs k × (checked cs ≡ Refused (refusal coordinate_out_of_range k)))
+    check_stray f = go (stray_from 0 cs) refl
       where
-        late : checked cs ≡ ofStray (touchCount cs) (strayFrom 0 cs)
-        late = simp (eq-eqb (length cs % 3) 0 w, le-leb (length cs) (mostTouches * 3) f)
+        late : checked cs ≡ of_stray (touch_count cs) (stray_from 0 cs)
+        late = simp (eq-eqb (length cs % 3) 0 w, le-leb (length cs) (most_touches * 3) f)
 
-        go : (s : Stray) → strayFrom 0 cs ≡ s → Sound cs ⊎ ((k : ℕ) × FirstStray cs k × (checked cs ≡ Refused (refusal coordinateOutOfRange k)))
+        go : (s : Stray) → stray_from 0 cs ≡ s → Sound cs ⊎ ((k : ℕ) × FirstStray cs k × (checked cs ≡ Refused (refusal coordinate_out_of_range k)))
         go Nowhere e = inl (record { whole = w; few = f; near = no_stray 0 cs e })
-        go (At k) e = inr (k.0, stray-first cs k w e, late ∙ ap (ofStray (touchCount cs)) e)
+        go (At k) e = inr (k.0, stray_first cs k w e, late ∙ ap (of_stray (touch_count cs)) e)

@@ -5,10 +5,10 @@ use Prim.Native.Nat.{ℕ, zero, suc}
 use native.Mathlib.Omega.{arith}
 use lib.ListN.{length, get_or}
 use Rattle.touches.specs.declared.TouchNo.{TouchNo}
-use Rattle.touches.specs.Touches.{touchNo, plain}
+use Rattle.touches.specs.Touches.{touch_no, plain}
 
 -- a touch number that the code reads is the plain number there
-pub plain_at : (ks : List TouchNo) (i : ℕ) → get_or (plain ks) i 0 ≡ (get_or ks i (touchNo 0)).0
+pub plain_at : (ks : List TouchNo) (i : ℕ) → get_or (plain ks) i 0 ≡ (get_or ks i (touch_no 0)).0
 plain_at [] i = refl
 plain_at (k ∷ ks) zero = refl
 plain_at (k ∷ ks) (suc i) = plain_at ks i

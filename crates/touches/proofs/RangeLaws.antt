@@ -7,10 +7,10 @@ use lib.Signed.{le_z}
 use Rattle.touches.specs.Limits.{in_range, reach}
 
 module _ {y z : ℤ} (e : y ≡ z) where
-  pub range-second : le_z (neg_ℤ (pos reach)) y ≡ true → le_z y (pos reach) ≡ in_range z
+  pub range_second : le_z (neg_ℤ (pos reach)) y ≡ true → le_z y (pos reach) ≡ in_range z
   unfolding in_range
-  range-second h = rw (← e, h)
+  range_second h = rw (← e, h)
 
-  pub range-first : le_z (neg_ℤ (pos reach)) y ≡ false → le_z (neg_ℤ (pos reach)) y ≡ in_range z
+  pub range_first : le_z (neg_ℤ (pos reach)) y ≡ false → le_z (neg_ℤ (pos reach)) y ≡ in_range z
   unfolding in_range
-  range-first h = rw (← e, h)
+  range_first h = rw (← e, h)

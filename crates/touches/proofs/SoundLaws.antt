@@ -9,11 +9,11 @@ use lib.IntN.{ℤ, pos, negsuc}
 use lib.ListN.{length, get_or}
 use borrow.Author.Tests.{eq-eqb, le-leb, eqb-true, leb-true}
 use Rattle.laws.specs.Numbers.{Within}
-use Rattle.laws.proofs.Tests.{is_true, T_of, and_both, both-and}
-use Rattle.touches.specs.Limits.{mostTouches, reach, in_range, placeInRange}
-use Rattle.touches.specs.Touches.{touchCount, touchNo, refusal, Near, Sound, touch}
-use Rattle.touches.specs.Refusals.{coordinatesNotInThrees, tooManyTouches, because}
-use Rattle.touches.specs.Check.{pick, strayFrom, ofStray, checked}
+use Rattle.laws.proofs.Tests.{is_true, T_of, and_both, both_and}
+use Rattle.touches.specs.Limits.{most_touches, reach, in_range, place_in_range}
+use Rattle.touches.specs.Touches.{touch_count, touch_no, refusal, Near, Sound, touch}
+use Rattle.touches.specs.Refusals.{coordinates_not_in_threes, too_many_touches, because}
+use Rattle.touches.specs.Check.{pick, stray_from, of_stray, checked}
 use Rattle.touches.specs.declared.Point.{Point}
 use Rattle.touches.specs.declared.TouchList.{TouchList}
 use Rattle.touches.specs.declared.Stray.{Stray}
@@ -22,77 +22,77 @@ use Rattle.touches.specs.declared.Checked.{Checked}
 use Rattle.touches.specs.declared.Checked.TheVariants.{Accepted, Refused}
 
 -- ---- one coordinate
-pub range-within : (z : ℤ) → in_range z ≡ true → Within reach z
+pub range_within : (z : ℤ) → in_range z ≡ true → Within reach z
 unfolding in_range
-range-within (pos n) e = record { within = leb→le n reach (T_of e) }
-range-within (negsuc n) e = let m = reach - 1 in record { within = omega (arith, leb→le n m (and_both (leb n m) true (T_of e)).0) }
+range_within (pos n) e = record { within = leb→le n reach (T_of e) }
+range_within (negsuc n) e = let m = reach - 1 in record { within = omega (arith, leb→le n m (and_both (leb n m) true (T_of e)).0) }
 
-pub within-range : (z : ℤ) → Within reach z → in_range z ≡ true
+pub within_range : (z : ℤ) → Within reach z → in_range z ≡ true
 unfolding in_range
-within-range (pos n) h = is_true (leb n reach) (le→leb n reach h.within)
-within-range (negsuc n) h = let m = reach - 1 in is_true (leb n m && true) (both-and (leb n m) true (le→leb n m (omega (arith, h.within))) tt)
+within_range (pos n) h = is_true (leb n reach) (le→leb n reach h.within)
+within_range (negsuc n) h = let m = reach - 1 in is_true (leb n m && true) (both_and (leb n m) true (le→leb n m (omega (arith, h.within))) tt)
 
 -- ---- one place
-pub place-near : (q : Point) → placeInRange q ≡ true → Near q
-place-near q e =
+pub place_near : (q : Point) → place_in_range q ≡ true → Near q
+place_near q e =
     let b = and_both (in_range q.x && in_range q.y) (in_range q.z) (T_of e) in
     let a = and_both (in_range q.x) (in_range q.y) b.0 in
     record {
-      x = range-within q.x (is_true (in_range q.x) a.0);
-      y = range-within q.y (is_true (in_range q.y) a.1);
-      z = range-within q.z (is_true (in_range q.z) b.1);
+      x = range_within q.x (is_true (in_range q.x) a.0);
+      y = range_within q.y (is_true (in_range q.y) a.1);
+      z = range_within q.z (is_true (in_range q.z) b.1);
     }
 
-pub near-place : (q : Point) → Near q → placeInRange q ≡ true
-near-place q s =
-    let two = both-and (in_range q.x) (in_range q.y) (T_of (within-range q.x s.x)) (T_of (within-range q.y s.y)) in
-    is_true (placeInRange q) (both-and (in_range q.x && in_range q.y) (in_range q.z) two (T_of (within-range q.z s.z)))
+pub near_place : (q : Point) → Near q → place_in_range q ≡ true
+near_place q s =
+    let two = both_and (in_range q.x) (in_range q.y) (T_of (within_range q.x s.x)) (T_of (within_range q.y s.y)) in
+    is_true (place_in_range q) (both_and (in_range q.x && in_range q.y) (in_range q.z) two (T_of (within_range q.z s.z)))
 
 -- ---- the whole list
-pub no_stray : (i : ℕ) (cs : List ℤ) → strayFrom i cs ≡ Nowhere → (k : ℕ) → k < length cs → Within reach (get_or cs k (pos 0))
-unfolding strayFrom
+pub no_stray : (i : ℕ) (cs : List ℤ) → stray_from i cs ≡ Nowhere → (k : ℕ) → k < length cs → Within reach (get_or cs k (pos 0))
+unfolding stray_from
 no_stray i [] e k h = absurd (omega arith)
 no_stray i (x ∷ cs) e k h = go (λ f j. no_stray (suc i) cs f j) (in_range x) refl e k h
   where
-    go : (strayFrom (suc i) cs ≡ Nowhere → (j : ℕ) → j < length cs → Within reach (get_or cs j (pos 0))) → (b : Bool) → in_range x ≡ b → pick b (strayFrom (suc i) cs) (At (touchNo (i / 3))) ≡ Nowhere → (k : ℕ) → k < suc (length cs) → Within reach (get_or (x ∷ cs) k (pos 0))
-    go n true r e zero h = range-within x r
+    go : (stray_from (suc i) cs ≡ Nowhere → (j : ℕ) → j < length cs → Within reach (get_or cs j (pos 0))) → (b : Bool) → in_range x ≡ b → pick b (stray_from (suc i) cs) (At (touch_no (i / 3))) ≡ Nowhere → (k : ℕ) → k < suc (length cs) → Within reach (get_or (x ∷ cs) k (pos 0))
+    go n true r e zero h = range_within x r
     go n true r e (suc k) h = n e k (omega arith)
     go n false r e k h = let z : ◌≡◌ {A = ℕ} 0 1 = cc in absurd (omega arith)
 
-stray-nowhere : (i : ℕ) (cs : List ℤ) → ((k : ℕ) → k < length cs → Within reach (get_or cs k (pos 0))) → strayFrom i cs ≡ Nowhere
-unfolding strayFrom
-stray-nowhere i [] h = refl
-stray-nowhere i (x ∷ cs) h = ap (λ (b : Bool). pick b (strayFrom (suc i) cs) (At (touchNo (i / 3)))) (within-range x (h 0 (omega arith))) ∙ stray-nowhere (suc i) cs (λ k l. h (suc k) (omega arith))
+stray_nowhere : (i : ℕ) (cs : List ℤ) → ((k : ℕ) → k < length cs → Within reach (get_or cs k (pos 0))) → stray_from i cs ≡ Nowhere
+unfolding stray_from
+stray_nowhere i [] h = refl
+stray_nowhere i (x ∷ cs) h = ap (λ (b : Bool). pick b (stray_from (suc i) cs) (At (touch_no (i / 3)))) (within_range x (h 0 (omega arith))) ∙ stray_nowhere (suc i) cs (λ k l. h (suc k) (omega arith))
 
 pub record Passed (cs : List ℤ) (l : TouchList) : Type 0 where
   pub sound : Sound cs
-  pub count : l.count ≡ touchCount cs
+  pub count : l.count ≡ touch_count cs
 
-pub accepted-sound : (cs : List ℤ) (l : TouchList) → checked cs ≡ Accepted l → Passed cs l
-accepted-sound cs l e = whole (eqb (length cs % 3) 0) refl e
+pub accepted_sound : (cs : List ℤ) (l : TouchList) → checked cs ≡ Accepted l → Passed cs l
+accepted_sound cs l e = whole (eqb (length cs % 3) 0) refl e
   where
     clash : {r : Checked} → r ≡ Accepted l → (a : ℕ) → r ≡ Refused (refusal a 0) → Passed cs l
     clash p a q = let z : ◌≡◌ {A = ℕ} 0 1 = cc in absurd (omega arith)
 
-    stray : length cs % 3 ≡ 0 → length cs ≤ mostTouches * 3 → (s : Stray) → strayFrom 0 cs ≡ s → ofStray (touchCount cs) s ≡ Accepted l → Passed cs l
+    stray : length cs % 3 ≡ 0 → length cs ≤ most_touches * 3 → (s : Stray) → stray_from 0 cs ≡ s → of_stray (touch_count cs) s ≡ Accepted l → Passed cs l
     stray w f Nowhere g e = record { sound = record { whole = w; few = f; near = no_stray 0 cs g }; count = cc }
     stray w f (At k) g e = let z : ◌≡◌ {A = ℕ} 0 1 = cc in absurd (omega arith)
 
-    few : length cs % 3 ≡ 0 → (b : Bool) → leb (length cs) (mostTouches * 3) ≡ b → pick b (ofStray (touchCount cs) (strayFrom 0 cs)) (Refused (because tooManyTouches)) ≡ Accepted l → Passed cs l
-    few w true g e = stray w (leb-true (length cs) (mostTouches * 3) g) (strayFrom 0 cs) refl e
+    few : length cs % 3 ≡ 0 → (b : Bool) → leb (length cs) (most_touches * 3) ≡ b → pick b (of_stray (touch_count cs) (stray_from 0 cs)) (Refused (because too_many_touches)) ≡ Accepted l → Passed cs l
+    few w true g e = stray w (leb-true (length cs) (most_touches * 3) g) (stray_from 0 cs) refl e
     few w false g e = clash e 2 refl
 
-    whole : (b : Bool) → eqb (length cs % 3) 0 ≡ b → pick b (pick (leb (length cs) (mostTouches * 3)) (ofStray (touchCount cs) (strayFrom 0 cs)) (Refused (because tooManyTouches))) (Refused (because coordinatesNotInThrees)) ≡ Accepted l → Passed cs l
-    whole true g e = few (eqb-true (length cs % 3) 0 g) (leb (length cs) (mostTouches * 3)) refl e
+    whole : (b : Bool) → eqb (length cs % 3) 0 ≡ b → pick b (pick (leb (length cs) (most_touches * 3)) (of_stray (touch_count cs) (stray_from 0 cs)) (Refused (because too_many_touches))) (Refused (because coordinates_not_in_threes)) ≡ Accepted l → Passed cs l
+    whole true g e = few (eqb-true (length cs % 3) 0 g) (leb (length cs) (most_touches * 3)) refl e
     whole false g e = clash e 1 refl
 
-pub sound-accepted : (cs : List ℤ) → Sound cs → checked cs ≡ Accepted (record { count = touchCount cs })
-sound-accepted cs s = simp (eq-eqb (length cs % 3) 0 s.whole, le-leb (length cs) (mostTouches * 3) s.few, stray-nowhere 0 cs s.near)
+pub sound_accepted : (cs : List ℤ) → Sound cs → checked cs ≡ Accepted (record { count = touch_count cs })
+sound_accepted cs s = simp (eq-eqb (length cs % 3) 0 s.whole, le-leb (length cs) (most_touches * 3) s.few, stray_nowhere 0 cs s.near)
 
 -- ---- one touch of a sound list
-module _ {cs : List ℤ} (s : Sound cs) (k : ℕ) (h : k < touchCount cs) where
+module _ {cs : List ℤ} (s : Sound cs) (k : ℕ) (h : k < touch_count cs) where
   inside : (i : ℕ) → i < 3 → k * 3 + i < length cs
   inside i l = omega arith
 
-  pub touch-near : Near (touch cs k)
-  touch-near = record { x = s.near (k * 3) (omega (arith, inside 0 (omega arith))); y = s.near (k * 3 + 1) (inside 1 (omega arith)); z = s.near (k * 3 + 2) (inside 2 (omega arith)) }
+  pub touch_near : Near (touch cs k)
+  touch_near = record { x = s.near (k * 3) (omega (arith, inside 0 (omega arith))); y = s.near (k * 3 + 1) (inside 1 (omega arith)); z = s.near (k * 3 + 2) (inside 2 (omega arith)) }

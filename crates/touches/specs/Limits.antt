@@ -4,21 +4,21 @@ use Rattle.std.specs.Int.Signed.{le_z}
 use Rattle.touches.specs.declared.Limits.{Limits}
 use Rattle.touches.specs.declared.Point.{Point}
 
-abbrev pub mostTouches : ℕ
-mostTouches = 64
+abbrev pub most_touches : ℕ
+most_touches = 64
 
 abbrev pub reach : ℕ
 reach = 30000
 
-abbrev pub mostFaces : ℕ
-mostFaces = 1344
+abbrev pub most_faces : ℕ
+most_faces = 1344
 
 -- the same three as the code has them
-abbrev pub limitsOf : Limits
-limitsOf = record { touches = mostTouches; reach = pos reach; faces = mostFaces }
+abbrev pub limits_of : Limits
+limits_of = record { touches = most_touches; reach = pos reach; faces = most_faces }
 
 unfoldable pub in_range : ℤ → Bool
 in_range x = le_z (neg_ℤ (pos reach)) x && le_z x (pos reach)
 
-abbrev pub placeInRange : Point → Bool
-placeInRange q = in_range q.x && in_range q.y && in_range q.z
+abbrev pub place_in_range : Point → Bool
+place_in_range q = in_range q.x && in_range q.y && in_range q.z

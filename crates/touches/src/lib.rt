@@ -1,9 +1,9 @@
 // The touch list: its limits, touch and face numbers, refusals, and the check of a lent list.
 ghost use Rattle.std.specs.Prelude.{◌≡◌, ◌*◌, ◌≤◌, length};
-ghost use Rattle.touches.specs.Limits.{mostTouches, limitsOf, in_range, placeInRange};
+ghost use Rattle.touches.specs.Limits.{most_touches, limits_of, in_range, place_in_range};
 ghost use Rattle.touches.specs.Touches.{plain};
 ghost use Rattle.touches.specs.Refusals.{because};
-ghost use Rattle.touches.specs.Check.{strayFrom, checked};
+ghost use Rattle.touches.specs.Check.{stray_from, checked};
 
 #[derive(Drop)]
 pub struct TouchNo(pub u16);
@@ -44,7 +44,7 @@ impl TouchList {
 
     // The limits that the definitions name are those of the code.
     pub fn limits() -> Limits
-        ensures { result ≡ limitsOf }
+        ensures { result ≡ limits_of }
     {
         Limits {
             touches: TouchList::MOST,
@@ -127,15 +127,15 @@ fn in_range(x: i64) -> bool
 
 // Refusal 7's test: each coordinate of the place is in range.
 pub fn place_in_range(q: Point) -> bool
-    ensures { result ≡ placeInRange q }
+    ensures { result ≡ place_in_range q }
 {
     in_range(q.x) & in_range(q.y) & in_range(q.z)
 }
 
 // The first touch with a coordinate out of range.
 fn first_stray(coords: &[i32]) -> Stray
-    requires { length coords.now ≤ mostTouches * 3 }
-    ensures { result ≡ strayFrom 0 coords.now }
+    requires { length coords.now ≤ most_touches * 3 }
+    ensures { result ≡ stray_from 0 coords.now }
 {
     let mut i: usize = 0;
     while i < coords.len() {

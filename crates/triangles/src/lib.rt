@@ -2,9 +2,9 @@
 // the product of two normals would leave 64 bits.
 ghost use Rattle.std.specs.Prelude.{◌≡◌, pos};
 ghost use Rattle.touches.specs.Touches.{Near, Small};
-ghost use Rattle.volume.specs.Volume.{Vol, mostNormal};
-ghost use Rattle.volume.specs.Triangle.{inTriangle, between, onSegment, contains};
-ghost use Rattle.volume.specs.SameWay.{opposed, sameWay};
+ghost use Rattle.volume.specs.Volume.{Vol, most_normal};
+ghost use Rattle.volume.specs.Triangle.{in_triangle, between, on_segment, contains};
+ghost use Rattle.volume.specs.SameWay.{opposed, same_way};
 
 use points::vectors::{in_line, normal};
 use touches::Point;
@@ -18,8 +18,8 @@ fn opposed(n: i64, m: i64) -> bool
 
 // m does not point the other way than n.
 fn same_way(n: Point, m: Point) -> bool
-    requires { Small mostNormal n × Small mostNormal m }
-    ensures { result ≡ sameWay n m }
+    requires { Small most_normal n × Small most_normal m }
+    ensures { result ≡ same_way n m }
 {
     !opposed(n.x, m.x) & !opposed(n.y, m.y) & !opposed(n.z, m.z)
 }
@@ -27,7 +27,7 @@ fn same_way(n: Point, m: Point) -> bool
 // q is beyond no side.
 fn in_triangle(a: Point, b: Point, c: Point, q: Point) -> bool
     requires { Near a × Near b × Near c × Near q × (Vol a b c q ≡ pos 0) }
-    ensures { result ≡ inTriangle a b c q }
+    ensures { result ≡ in_triangle a b c q }
 {
     let n = normal(a, b, c);
     same_way(n, normal(a, b, q)) & same_way(n, normal(b, c, q)) & same_way(n, normal(c, a, q))
@@ -43,7 +43,7 @@ fn between(x: i64, y: i64, z: i64, t: i64) -> bool
 // q is on the smallest segment that has a, b and c, which are in line.
 fn on_segment(a: Point, b: Point, c: Point, q: Point) -> bool
     requires { Near a × Near b × Near c × Near q }
-    ensures { result ≡ onSegment a b c q }
+    ensures { result ≡ on_segment a b c q }
 {
     in_line(a, b, q)
         & in_line(b, c, q)

@@ -11,5 +11,5 @@ on p X = p.x
 on p Y = p.y
 on p Z = p.z
 
-pub point-ext : {p q : Point} → ((i : Axis) → on p i ≡ on q i) → p ≡ q
-point-ext {p} {q} e = λ i. record { x = e X i; y = e Y i; z = e Z i }
+pub point_ext : {p q : Point} → ((i : Axis) → on p i ≡ on q i) → p ≡ q
+point_ext {p} {q} e = λ i. record { x = e X i; y = e Y i; z = e Z i }

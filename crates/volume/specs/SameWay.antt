@@ -8,5 +8,5 @@ abbrev pub opposed : ℤ → ℤ → Bool
 opposed n m = (lt_z (pos 0) n && lt_z m (pos 0)) || (lt_z n (pos 0) && lt_z (pos 0) m)
 
 -- m does not point the other way than n
-unfoldable pub sameWay : Point → Point → Bool
-sameWay n m = not (opposed n.x m.x) && not (opposed n.y m.y) && not (opposed n.z m.z)
+unfoldable pub same_way : Point → Point → Bool
+same_way n m = not (opposed n.x m.x) && not (opposed n.y m.y) && not (opposed n.z m.z)

@@ -1,6 +1,6 @@
 -- 01 'Volume and the four-corner rule': V of four points, and the plane of a face.
 use Rattle.std.specs.Prelude.{Bool, ◌&&◌, ℕ, ◌*◌, ℤ, pos, ◌+ℤ◌, ◌-ℤ◌, ◌*ℤ◌}
-use Rattle.laws.specs.Numbers.{eqZ}
+use Rattle.laws.specs.Numbers.{eq_z}
 use Rattle.touches.specs.declared.Point.{Point}
 use Rattle.touches.specs.Limits.{reach}
 
@@ -20,14 +20,14 @@ Vol a b c d =
     -ℤ pos 1 *ℤ det3 b.x b.y b.z c.x c.y c.z d.x d.y d.z
 
 -- within range a difference is at most 60,000 in size, a part of a normal 2 × 60,000², and V 48 × 30,000³
-abbrev pub mostGap : ℕ
-mostGap = 2 * reach
+abbrev pub most_gap : ℕ
+most_gap = 2 * reach
 
-abbrev pub mostNormal : ℕ
-mostNormal = 2 * mostGap * mostGap
+abbrev pub most_normal : ℕ
+most_normal = 2 * most_gap * most_gap
 
-abbrev pub mostVolume : ℕ
-mostVolume = 48 * reach * reach * reach
+abbrev pub most_volume : ℕ
+most_volume = 48 * reach * reach * reach
 
 abbrev pub minus : Point → Point → Point
 minus p q = record { x = p.x -ℤ q.x; y = p.y -ℤ q.y; z = p.z -ℤ q.z }
@@ -46,11 +46,11 @@ unfoldable pub offset : Point → Point → Point → ℤ
 offset a b c = dot (normal a b c) a
 
 abbrev pub is_zero : ℤ → Bool
-is_zero v = eqZ v (pos 0)
+is_zero v = eq_z v (pos 0)
 
-abbrev pub isOrigin : Point → Bool
-isOrigin u = is_zero u.x && is_zero u.y && is_zero u.z
+abbrev pub is_origin : Point → Bool
+is_origin u = is_zero u.x && is_zero u.y && is_zero u.z
 
 -- three corners in line have no normal
-unfoldable pub inLine : Point → Point → Point → Bool
-inLine a b c = isOrigin (normal a b c)
+unfoldable pub in_line : Point → Point → Point → Bool
+in_line a b c = is_origin (normal a b c)

@@ -1,8 +1,8 @@
 use borrow.Author.Rules.{rules}
 use mathlib.Core.Path.{◌∙◌, ap}
 use Rattle.hull.specs.declared.build.Built.{Built}
-use Rattle.hull.specs.Build.{hullOf, tableAfter}
-use Rattle.numbers.specs.Numbers.{builtNumbers}
+use Rattle.hull.specs.Build.{hull_of, table_after}
+use Rattle.numbers.specs.Numbers.{built_numbers}
 use Rattle.chienlohup.proofs.chienlohup_build.Statement.{statement}
 use Rattle.chienlohup.proofs.chienlohup_build.Tie as tie
 
@@ -19,7 +19,7 @@ returns : tie.Need-returns
 returns c =
     let g = c.before.before.before.before.before.before.args in
     let answer = c.before.before.before.build.ensures in
-    (c.built-numbers.ensures ∙ ap builtNumbers answer.0, answer.1 ∙ ap (λ (a : Built). tableAfter a (hullOf g.touches.now) g.faces.now) answer.0)
+    (c.built-numbers.ensures ∙ ap built_numbers answer.0, answer.1 ∙ ap (λ (a : Built). table_after a (hull_of g.touches.now) g.faces.now) answer.0)
 
 pub chienlohup-build-spec : {M : Type 1} → statement M
 chienlohup-build-spec =

@@ -1,8 +1,8 @@
 use borrow.Author.Rules.{rules}
 use mathlib.Core.Path.{◌∙◌, ap}
-use Rattle.planes.specs.Planes.{planedRefusal, planedPlane}
+use Rattle.planes.specs.Planes.{planed_refusal, planed_plane}
 use Rattle.planes.specs.declared.Planed.{Planed}
-use Rattle.numbers.specs.Numbers.{numbers, planeNumbers}
+use Rattle.numbers.specs.Numbers.{numbers, plane_numbers}
 use Rattle.chienlohup.proofs.chienlohup_plane.Statement.{statement}
 use Rattle.chienlohup.proofs.chienlohup_plane.Tie as tie
 
@@ -18,7 +18,7 @@ plane-numbers-requires c κs = search rules
 returns : tie.Need-returns
 returns c =
     let answer = c.before.before.plane-of.ensures in
-    (c.before.planed-said.ensures ∙ ap (λ (a : Planed). numbers (planedRefusal a)) answer, c.plane-numbers.ensures ∙ ap (λ (a : Planed). planeNumbers (planedPlane a)) answer)
+    (c.before.planed-said.ensures ∙ ap (λ (a : Planed). numbers (planed_refusal a)) answer, c.plane-numbers.ensures ∙ ap (λ (a : Planed). plane_numbers (planed_plane a)) answer)
 
 pub chienlohup-plane-spec : {M : Type 1} → statement M
 chienlohup-plane-spec =

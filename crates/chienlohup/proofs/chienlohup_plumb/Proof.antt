@@ -2,7 +2,7 @@ use borrow.Author.Rules.{rules, sfits_of}
 use mathlib.Core.Path.{◌∙◌, ap}
 use mir.Facts.{to_z-of_z}
 use Rattle.plumb.specs.Plumb.{plumbed}
-use Rattle.numbers.specs.Numbers.{plumbedNumbers, plumbedHeights}
+use Rattle.numbers.specs.Numbers.{plumbed_numbers, plumbed_heights}
 use Rattle.chienlohup.proofs.chienlohup_plumb.Statement.{statement}
 use Rattle.chienlohup.proofs.chienlohup_plumb.Tie as tie
 
@@ -27,7 +27,7 @@ returns c =
     let x = to_z-of_z (sfits_of c.before.before.before.before.wide32.type-inv) ∙ c.before.before.before.before.wide32.ensures ∙ to_z-of_z s.ranges.x in
     let y = to_z-of_z (sfits_of c.before.before.before.wide322.type-inv) ∙ c.before.before.before.wide322.ensures ∙ to_z-of_z s.ranges.y in
     let answer = c.before.before.plumb.ensures ∙ (λ i. plumbed s.args.touches.now (x i) (y i)) in
-    (c.before.plumbed-numbers.ensures ∙ ap plumbedNumbers answer, c.plumbed-heights.ensures ∙ ap plumbedHeights answer)
+    (c.before.plumbed-numbers.ensures ∙ ap plumbed_numbers answer, c.plumbed-heights.ensures ∙ ap plumbed_heights answer)
 
 pub chienlohup-plumb-spec : {M : Type 1} → statement M
 chienlohup-plumb-spec =

@@ -5,10 +5,10 @@ use lib.ListN.{length}
 use Rattle.touches.specs.Check.{checked}
 use Rattle.records.specs.declared.Numbers.{Numbers}
 use Rattle.records.specs.declared.WriteAnswer.{WriteAnswer}
-use Rattle.records.specs.Record.{plainVersion, recordOf}
-use Rattle.records.specs.Answers.{bufferAfter, writeNumbers}
-use Rattle.numbers.specs.Numbers.{recordNumbers}
-use Rattle.chienlohup.proofs.CountLaws.{write-few, lists-few}
+use Rattle.records.specs.Record.{plain_version, record_of}
+use Rattle.records.specs.Answers.{buffer_after, write_numbers}
+use Rattle.numbers.specs.Numbers.{record_numbers}
+use Rattle.chienlohup.proofs.CountLaws.{write_few, lists_few}
 use Rattle.chienlohup.proofs.chienlohup_write.Statement.{statement}
 use Rattle.chienlohup.proofs.chienlohup_write.Tie as tie
 
@@ -21,8 +21,8 @@ write-numbers-requires c κs = search rules
 record-numbers-requires : tie.Need-record-numbers-requires
 record-numbers-requires c κs =
     let g = c.before.before.before.before.before.before.args in
-    let e = c.write-numbers.ensures ∙ ap writeNumbers c.before.before.before.write.ensures.answer in
-    omega (arith, ap (λ (n : Numbers). n.count) e, write-few (checked g.touches.now) (lists-few g.touches.now) (length g.buffer.now))
+    let e = c.write-numbers.ensures ∙ ap write_numbers c.before.before.before.write.ensures.answer in
+    omega (arith, ap (λ (n : Numbers). n.count) e, write_few (checked g.touches.now) (lists_few g.touches.now) (length g.buffer.now))
 
 same_length : tie.Need-same-length
 same_length c = search rules
@@ -31,8 +31,8 @@ returns : tie.Need-returns
 returns c =
     let g = c.before.before.before.before.before.before.before.args in
     let gives = c.before.before.before.before.write.ensures in (
-      c.record-numbers.ensures ∙ ap recordNumbers (c.before.write-numbers.ensures ∙ ap writeNumbers gives.answer),
-      gives.table ∙ ap (λ (a : WriteAnswer). bufferAfter a (recordOf plainVersion g.touches.now) g.buffer.now) gives.answer,
+      c.record-numbers.ensures ∙ ap record_numbers (c.before.write-numbers.ensures ∙ ap write_numbers gives.answer),
+      gives.table ∙ ap (λ (a : WriteAnswer). buffer_after a (record_of plain_version g.touches.now) g.buffer.now) gives.answer,
     )
 
 pub chienlohup-write-spec : {M : Type 1} → statement M

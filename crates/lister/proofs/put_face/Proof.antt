@@ -1,9 +1,9 @@
 use borrow.Author.Rules.{rules}
 use lib.ListN.{get_or}
-use Rattle.touches.specs.Touches.{touchNo}
+use Rattle.touches.specs.Touches.{touch_no}
 use Rattle.touches.proofs.PlainLaws.{plain_at}
 use Rattle.text.specs.Decimal.{decimal}
-use Rattle.text.proofs.LineLaws.{laid-line}
+use Rattle.text.proofs.LineLaws.{laid_line}
 use Rattle.lister.proofs.put_face.Statement.{statement}
 use Rattle.lister.proofs.put_face.Tie as tie
 
@@ -34,7 +34,7 @@ returns c =
     let second = c.before.before.before.before.before.before.put-field2.ensures in
     let first = c.before.before.before.before.before.before.before.before.before.before.put-field.ensures in
     let f = c.before.before.before.before.before.before.before.before.before.before.before.before.before.args.t3 in
-    (simp plain_at (laid-line (decimal (get_or f 0 (touchNo 0)).0) (decimal (get_or f 1 (touchNo 0)).0) (decimal (get_or f 2 (touchNo 0)).0) (search rules) first.0 second.0 third.0), search rules)
+    (simp plain_at (laid_line (decimal (get_or f 0 (touch_no 0)).0) (decimal (get_or f 1 (touch_no 0)).0) (decimal (get_or f 2 (touch_no 0)).0) (search rules) first.0 second.0 third.0), search rules)
 
 pub put-face-spec : {M : Type 1} → statement M
 put-face-spec =

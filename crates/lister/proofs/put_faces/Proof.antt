@@ -5,14 +5,14 @@ use borrow.Author.Rules.{rules}
 use lib.ListN.{length, take}
 use Rattle.laws.specs.Lists.{Laid}
 use Rattle.laws.proofs.Tables.{laid_none}
-use Rattle.table.specs.Table.{facesIn}
-use Rattle.lister.specs.Listing.{faceLines}
+use Rattle.table.specs.Table.{faces_in}
+use Rattle.lister.specs.Listing.{face_lines}
 use Rattle.lister.proofs.FaceLaws.{lines_none, laid_next}
 use Rattle.lister.proofs.put_faces.Statement.{statement}
 use Rattle.lister.proofs.put_faces.Tie as tie
 
 abbrev invariant-loop : tie.invariant-loop
-invariant-loop out₀ start faces n at₀ i₀ out at i = (i ≤ n) × (at ≤ start + i * 18) × (length out ≡ length out₀) × Laid start (faceLines (take i (facesIn faces))) out₀ at out
+invariant-loop out₀ start faces n at₀ i₀ out at i = (i ≤ n) × (at ≤ start + i * 18) × (length out ≡ length out₀) × Laid start (face_lines (take i (faces_in faces))) out₀ at out
 
 abbrev decreases-loop : tie.decreases-loop
 decreases-loop out₀ start faces n at₀ i₀ out at i = n - i

@@ -2,8 +2,8 @@ use mir.Syntax.{w64}
 use mir.ValLaws.{to_z-of_z}
 use borrow.Author.Rules.{rules}
 use Rattle.text.specs.Decimal.{decimal, whole}
-use Rattle.text.proofs.LineLaws.{laid-line}
-use Rattle.lister.specs.Listing.{hullWord}
+use Rattle.text.proofs.LineLaws.{laid_line}
+use Rattle.lister.specs.Listing.{hull_word}
 use Rattle.lister.proofs.put_hull.Statement.{statement}
 use Rattle.lister.proofs.put_hull.Tie as tie
 
@@ -28,7 +28,7 @@ returns c =
     let third = rw (to_z-of_z w64 s.args.v s.ranges.v) at c.before.before.put-volume.ensures.0 in
     let second = c.before.before.before.before.before.before.put-field.ensures.0 in
     let first = c.before.before.before.before.before.before.before.before.before.before.put_word.ensures in
-    (laid-line hullWord (decimal s.args.n) (whole s.args.v) (search rules) first second third, search rules)
+    (laid_line hull_word (decimal s.args.n) (whole s.args.v) (search rules) first second third, search rules)
 
 pub put-hull-spec : {M : Type 1} → statement M
 put-hull-spec =

@@ -3,16 +3,16 @@ use Prim.Native.Nat.{◌*◌, ◌≤◌}
 use native.Mathlib.Omega.{arith}
 use borrow.Author.Rules.{rules}
 use lib.Seq.{length-take-le}
-use Rattle.touches.specs.Limits.{mostTouches}
-use Rattle.lister.proofs.ListingLaws.{many-text, Asked, refused-text, touches-few, touches-text}
+use Rattle.touches.specs.Limits.{most_touches}
+use Rattle.lister.proofs.ListingLaws.{many_text, Asked, refused_text, touches_few, touches_text}
 use Rattle.lister.proofs.put_listing.Statement.{statement}
 use Rattle.lister.proofs.put_listing.Tie as tie
 
 asked : (c : tie.After-read) → Asked c.before.before.before.before.before.args.bytes.now c.read.result c.read.new.1.0
 asked c = record { few = search rules; old = _; wide = refl; gives = c.read.ensures }
 
-few : (c : tie.After-n) → c.n.given.0.0 * 3 ≤ mostTouches * 3
-few c = touches-few (asked c.before.before.before) c.n.given.1
+few : (c : tie.After-n) → c.n.given.0.0 * 3 ≤ most_touches * 3
+few c = touches_few (asked c.before.before.before) c.n.given.1
 
 because-requires : tie.Need-because-requires
 because-requires c κs = search rules
@@ -24,7 +24,7 @@ same_length : tie.Need-same-length
 same_length c = search rules
 
 returns : tie.Need-returns
-returns c = rw (many-text c.before.before.before.before.before.before.before.before.args.bytes.now (search rules)) (rw c.before.before.before.because.ensures at c.before.before.Put-refused.ensures)
+returns c = rw (many_text c.before.before.before.before.before.before.before.before.args.bytes.now (search rules)) (rw c.before.before.before.because.ensures at c.before.before.Put-refused.ensures)
 
 slice-aggregate-read : tie.Need-slice-aggregate-read
 slice-aggregate-read c = search rules
@@ -61,7 +61,7 @@ same-length-2 c = search rules
 returns-2 : tie.Need-returns-2
 returns-2 c =
     let x = c.before.before.before.before.before in
-    rw (refused-text (asked x.before.before.before) x.x.given.1) c.before.before.put-refused2.ensures
+    rw (refused_text (asked x.before.before.before) x.x.given.1) c.before.before.put-refused2.ensures
 
 same-length-3 : tie.Need-same-length-3
 same-length-3 c = search rules
@@ -69,7 +69,7 @@ same-length-3 c = search rules
 returns-3 : tie.Need-returns-3
 returns-3 c =
     let n = c.before.before.before.before.before.before in
-    rw (touches-text (asked n.before.before.before) n.n.given.1) c.before.before.put-built.ensures
+    rw (touches_text (asked n.before.before.before) n.n.given.1) c.before.before.put-built.ensures
 
 pub put-listing-spec : {M : Type 1} → statement M
 put-listing-spec =

@@ -1,7 +1,7 @@
 use borrow.Author.Rules.{rules}
 use Rattle.text.specs.Decimal.{decimal}
-use Rattle.text.proofs.LineLaws.{laid-line}
-use Rattle.lister.specs.Listing.{refusedWord}
+use Rattle.text.proofs.LineLaws.{laid_line}
+use Rattle.lister.specs.Listing.{refused_word}
 use Rattle.lister.proofs.put_refused.Statement.{statement}
 use Rattle.lister.proofs.put_refused.Tie as tie
 
@@ -29,7 +29,7 @@ returns c =
     let second = c.before.before.before.before.before.before.put-field.ensures.0 in
     let first = c.before.before.before.before.before.before.before.before.before.before.before.put_word.ensures in
     let x = c.before.before.before.before.before.before.before.before.before.before.before.before.before.before.before.args.x in
-    laid-line refusedWord (decimal x.number) (decimal x.place.0) (search rules) first second third
+    laid_line refused_word (decimal x.number) (decimal x.place.0) (search rules) first second third
 
 pub put-refused-spec : {M : Type 1} → statement M
 put-refused-spec =

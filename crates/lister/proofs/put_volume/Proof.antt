@@ -7,7 +7,7 @@ use mir.ValLaws.{to_z-of_z}
 use Rattle.text.specs.Decimal.{whole, newline}
 use Rattle.text.specs.Room.{Put}
 use Rattle.text.proofs.WholeLaws.{length_whole}
-use Rattle.lister.proofs.FieldLaws.{field-short, field-inside, field-laid}
+use Rattle.lister.proofs.FieldLaws.{field_short, field_inside, field_laid}
 use Rattle.lister.proofs.put_volume.Statement.{statement}
 use Rattle.lister.proofs.put_volume.Tie as tie
 
@@ -23,16 +23,16 @@ put-whole-requires : tie.Need-put-whole-requires
 put-whole-requires c κs = search rules
 
 slice-write-out : tie.Need-slice-write-out
-slice-write-out c = field-inside 20 (few c) c.before.before.before.before.before.requires (put c)
+slice-write-out c = field_inside 20 (few c) c.before.before.before.before.before.requires (put c)
 
 add-result : tie.Need-overflow-add-result
-add-result c = record { fits = omega (arith, field-short 20 (few c) c.before.before.before.before.before.requires (put c)) }
+add-result c = record { fits = omega (arith, field_short 20 (few c) c.before.before.before.before.before.requires (put c)) }
 
 same_length : tie.Need-same-length
 same_length c = search rules
 
 returns : tie.Need-returns
-returns c = (field-laid 20 (few c) c.before.before.before.before.before.requires (put c) newline, omega (arith, field-short 20 (few c) c.before.before.before.before.before.requires (put c)))
+returns c = (field_laid 20 (few c) c.before.before.before.before.before.requires (put c) newline, omega (arith, field_short 20 (few c) c.before.before.before.before.before.requires (put c)))
 
 pub put-volume-spec : {M : Type 1} → statement M
 put-volume-spec =

@@ -1,6 +1,6 @@
 use borrow.Author.Rules.{rules}
 use mathlib.Core.Path.{sym, ap}
-use Rattle.numbers.specs.Numbers.{plumbedHeights}
+use Rattle.numbers.specs.Numbers.{plumbed_heights}
 use Rattle.numbers.proofs.plumbed_heights.Statement.{statement}
 use Rattle.numbers.proofs.plumbed_heights.Tie as tie
 
@@ -17,16 +17,16 @@ enum-told-2 : tie.Need-enum-told-2
 enum-told-2 c = search rules
 
 returns : tie.Need-returns
-returns c = ap plumbedHeights (sym c.enum_told.given.1)
+returns c = ap plumbed_heights (sym c.enum_told.given.1)
 
 returns-2 : tie.Need-returns-2
-returns-2 c = ap plumbedHeights (sym c.before.a.given.1)
+returns-2 c = ap plumbed_heights (sym c.before.a.given.1)
 
 returns-3 : tie.Need-returns-3
-returns-3 c = ap plumbedHeights (sym c.before.a2.given.1)
+returns-3 c = ap plumbed_heights (sym c.before.a2.given.1)
 
 returns-4 : tie.Need-returns-4
-returns-4 c = ap plumbedHeights (sym c.enum-told2.given.1)
+returns-4 c = ap plumbed_heights (sym c.enum-told2.given.1)
 
 pub plumbed-heights-spec : {M : Type 1} → statement M
 plumbed-heights-spec =

@@ -1,7 +1,7 @@
 use borrow.Author.Rules.{rules}
-use Rattle.laws.proofs.Exact.{e_add, e_mul, e-plus0, e-done}
+use Rattle.laws.proofs.Exact.{e_add, e_mul, e_plus0, e_done}
 use Rattle.volume.specs.Volume.{offset}
-use Rattle.points.proofs.DoubleLaws.{at_x, at_y, at-z, normal-x, normal-y, normal-z}
+use Rattle.points.proofs.DoubleLaws.{at_x, at_y, at_z, normal_x, normal_y, normal_z}
 use Rattle.planes.proofs.plane_through.Statement.{statement}
 use Rattle.planes.proofs.plane_through.Tie as tie
 
@@ -26,11 +26,11 @@ returns c =
     let eb = c.before.before.before.before.before.before.before.before.in-doubles2.ensures in
     let ec = c.before.before.before.before.before.before.before.in-doubles3.ensures in
     let n = c.before.before.before.before.before.before.normal.ensures in
-    let x = normal-x h.0 h.1 h.2 ea eb ec n in
-    let y = normal-y h.0 h.1 h.2 ea eb ec n in
-    let z = normal-z h.0 h.1 h.2 ea eb ec n in
-    let o = e-done (e_add tt (e_add tt (e_mul tt (e-plus0 tt x) (at_x h.0 ea)) (e_mul tt (e-plus0 tt y) (at_y h.0 ea))) (e_mul tt (e-plus0 tt z) (at-z h.0 ea))) in
-    λ i. record { x = e-done x i; y = e-done y i; z = e-done z i; offset = o i }
+    let x = normal_x h.0 h.1 h.2 ea eb ec n in
+    let y = normal_y h.0 h.1 h.2 ea eb ec n in
+    let z = normal_z h.0 h.1 h.2 ea eb ec n in
+    let o = e_done (e_add tt (e_add tt (e_mul tt (e_plus0 tt x) (at_x h.0 ea)) (e_mul tt (e_plus0 tt y) (at_y h.0 ea))) (e_mul tt (e_plus0 tt z) (at_z h.0 ea))) in
+    λ i. record { x = e_done x i; y = e_done y i; z = e_done z i; offset = o i }
 
 pub plane-through-spec : {M : Type 1} → statement M
 plane-through-spec =

@@ -1,12 +1,12 @@
 use borrow.Author.Rules.{rules}
 use mathlib.Core.Path.{◌∙◌, ap}
-use Rattle.laws.proofs.Exact.{e-of, e_add, e-sub, e_mul, e-done}
+use Rattle.laws.proofs.Exact.{e_of, e_add, e_sub, e_mul, e_done}
 use Rattle.volume.specs.Volume.{offset}
 use Rattle.volume.proofs.Axes.{X, Y, Z}
-use Rattle.volume.proofs.PlaneLaws.{normal-within, dot-within, reading-is}
+use Rattle.volume.proofs.PlaneLaws.{normal_within, dot_within, reading_is}
 use Rattle.planes.specs.declared.Plane.{Plane}
 use Rattle.laws.specs.Doubles.{double}
-use Rattle.points.proofs.DoubleLaws.{at_x, at_y, at-z}
+use Rattle.points.proofs.DoubleLaws.{at_x, at_y, at_z}
 use Rattle.planes.proofs.read_at.Statement.{statement}
 use Rattle.planes.proofs.read_at.Tie as tie
 
@@ -18,12 +18,12 @@ unfolding offset
 returns c a b f ha hb hf e =
     let s = c.before.before.before.before.before.before.before.before in
     let q = c.before.before.before.before.before.before.before.in-doubles.ensures in
-    let x = e-of tt (ap (λ (p : Plane). p.x) e) (normal-within ha hb hf X) in
-    let y = e-of tt (ap (λ (p : Plane). p.y) e) (normal-within ha hb hf Y) in
-    let z = e-of tt (ap (λ (p : Plane). p.z) e) (normal-within ha hb hf Z) in
-    let o = e-of tt (ap (λ (p : Plane). p.offset) e) (dot-within ha hb hf ha) in
-    e-done (e-sub tt (e_add tt (e_add tt (e_mul tt x (at_x s.requires q)) (e_mul tt y (at_y s.requires q))) (e_mul tt z (at-z s.requires q))) o)
-    ∙ ap double (reading-is a b f s.args.q)
+    let x = e_of tt (ap (λ (p : Plane). p.x) e) (normal_within ha hb hf X) in
+    let y = e_of tt (ap (λ (p : Plane). p.y) e) (normal_within ha hb hf Y) in
+    let z = e_of tt (ap (λ (p : Plane). p.z) e) (normal_within ha hb hf Z) in
+    let o = e_of tt (ap (λ (p : Plane). p.offset) e) (dot_within ha hb hf ha) in
+    e_done (e_sub tt (e_add tt (e_add tt (e_mul tt x (at_x s.requires q)) (e_mul tt y (at_y s.requires q))) (e_mul tt z (at_z s.requires q))) o)
+    ∙ ap double (reading_is a b f s.args.q)
 
 pub read-at-spec : {M : Type 1} → statement M
 read-at-spec = tie.close (tie.spec in-doubles-requires returns)

@@ -10,15 +10,15 @@ use lib.ListN.{take}
 use lib.Seq.{length-take-le}
 use mir.Syntax.{w64}
 use mir.ValLaws.{to_z-of_z}
-use Rattle.touches.specs.Limits.{in_range, placeInRange}
-use Rattle.touches.specs.Touches.{touchCount}
-use Rattle.touches.proofs.SoundLaws.{place-near}
+use Rattle.touches.specs.Limits.{in_range, place_in_range}
+use Rattle.touches.specs.Touches.{touch_count}
+use Rattle.touches.proofs.SoundLaws.{place_near}
 use Rattle.rules.specs.Heights.{over}
-use Rattle.table.specs.Table.{stride, lent, facesIn, usable}
+use Rattle.table.specs.Table.{stride, lent, faces_in, usable}
 use Rattle.points.proofs.NumberLaws.{rd}
-use Rattle.hull.proofs.CallLaws.{hull-back, hull-usable}
-use Rattle.plumb.proofs.OwnRoomLaws.{Filled, own-refused, own-filled}
-use Rattle.plumb.proofs.PlumbedLaws.{column, sound-plumbed, hull-read, over-far, over-read}
+use Rattle.hull.proofs.CallLaws.{hull_back, hull_usable}
+use Rattle.plumb.proofs.OwnRoomLaws.{Filled, own_refused, own_filled}
+use Rattle.plumb.proofs.PlumbedLaws.{column, sound_plumbed, hull_read, over_far, over_read}
 use Rattle.plumb.proofs.plumb_in.Statement.{statement}
 use Rattle.plumb.proofs.plumb_in.Tie as tie
 
@@ -27,7 +27,7 @@ filled : (c : tie.After-known-told2) → Filled c.before.before.before.before.be
 filled c =
     let s = c.before.before.before.before.before.before.before.before in
     let b = c.before.before.before.before.before.build in
-    own-filled s.args.coords.now s.args.faces.now b.ensures.0 b.ensures.1 c.before.m.given.1
+    own_filled s.args.coords.now s.args.faces.now b.ensures.0 b.ensures.1 c.before.m.given.1
 
 -- the part of the table that is read
 given : (c : tie.After-known-told2) {end : ℕ} → end ≡ c.before.m.given.0.0 * stride → take end c.before.before.before.before.before.build.new.1.0 ≡ lent (filled c).faces
@@ -37,7 +37,7 @@ given c e = ap (λ (n : ℕ). take n c.before.before.before.before.before.build.
 tested : (c : tie.After-place-in-range) {t : Bool} → c.place-in-range.result ≡ t → let a = c.before.before.before.before.before.before.before.before.before.args in in_range a.x && in_range a.y ≡ t
 tested c e =
     let s = c.before.before.before.before.before.before.before.before.before in
-    sym (column s.args.x s.args.y) ∙ sym (ap₂ (λ (x y : ℤ). placeInRange (over x y (pos 0))) (to_z-of_z w64 s.args.x s.ranges.x) (to_z-of_z w64 s.args.y s.ranges.y))
+    sym (column s.args.x s.args.y) ∙ sym (ap₂ (λ (x y : ℤ). place_in_range (over x y (pos 0))) (to_z-of_z w64 s.args.x s.ranges.x) (to_z-of_z w64 s.args.y s.ranges.y))
     ∙ sym c.place-in-range.ensures ∙ e
 
 build-requires : tie.Need-build-requires
@@ -63,7 +63,7 @@ returns c =
     let q = c.before.before in
     let a = q.before.before.before.before.before.before.before.before.before.args in
     let f = filled q.before in
-    over-far a.coords.now a.x a.y f.is (tested q (not-true q.place-in-range.result c.before.if1.true)) c.because.ensures ∙ sym (sound-plumbed a.coords.now a.x a.y f.sound)
+    over_far a.coords.now a.x a.y f.is (tested q (not-true q.place-in-range.result c.before.if1.true)) c.because.ensures ∙ sym (sound_plumbed a.coords.now a.x a.y f.sound)
 
 numbers-of-requires : tie.Need-numbers-of-requires
 numbers-of-requires c κs = search rules
@@ -79,8 +79,8 @@ tightest-requires c κs =
     let q = c.before.before.before in
     let s = q.before.before.before.before.before.before.before.before.before in
     let f = filled q.before in
-    let n = place-near (over (rd s.args.x) (rd s.args.y) (pos 0)) (sym q.place-in-range.ensures ∙ not-false q.place-in-range.result c.before.before.if1.false) in
-    (f.sound, subst (λ (t : List ℕ). usable (touchCount s.args.coords.now) t ≡ true) (sym (given q.before c.before.Numbers-of.ensures)) (hull-usable f.sound f.is), n.x, n.y)
+    let n = place_near (over (rd s.args.x) (rd s.args.y) (pos 0)) (sym q.place-in-range.ensures ∙ not-false q.place-in-range.result c.before.before.if1.false) in
+    (f.sound, subst (λ (t : List ℕ). usable (touch_count s.args.coords.now) t ≡ true) (sym (given q.before c.before.Numbers-of.ensures)) (hull_usable f.sound f.is), n.x, n.y)
 
 reading-requires : tie.Need-reading-requires
 reading-requires c κs = search rules
@@ -91,7 +91,7 @@ same-length-2 c = search rules
 returns-2 : tie.Need-returns-2
 returns-2 c =
     let s = c.before.before.before.before.before.before.before.before in
-    own-refused s.args.coords.now s.args.faces.now s.requires s.args.x s.args.y (sym c.before.before.before.before.before.build.ensures.0 ∙ c.before.r.given.1)
+    own_refused s.args.coords.now s.args.faces.now s.requires s.args.x s.args.y (sym c.before.before.before.before.before.build.ensures.0 ∙ c.before.r.given.1)
 
 same-length-3 : tie.Need-same-length-3
 same-length-3 c = search rules
@@ -103,9 +103,9 @@ returns-3 c =
     let cs = s.args.coords.now in
     let f = filled q.before in
     let t = c.before.tightest in
-    over-read cs s.args.x s.args.y f.is (tested q (not-false q.place-in-range.result c.before.before.before.before.if1.false))
-    (hull-read cs s.args.x s.args.y t.result c.reading.ensures t.ensures.0 (to_z-of_z w64 s.args.x s.ranges.x) (to_z-of_z w64 s.args.y s.ranges.y) (ap facesIn (given q.before c.before.before.before.Numbers-of.ensures) ∙ hull-back f.sound f.is))
-    ∙ sym (sound-plumbed cs s.args.x s.args.y f.sound)
+    over_read cs s.args.x s.args.y f.is (tested q (not-false q.place-in-range.result c.before.before.before.before.if1.false))
+    (hull_read cs s.args.x s.args.y t.result c.reading.ensures t.ensures.0 (to_z-of_z w64 s.args.x s.ranges.x) (to_z-of_z w64 s.args.y s.ranges.y) (ap faces_in (given q.before c.before.before.before.Numbers-of.ensures) ∙ hull_back f.sound f.is))
+    ∙ sym (sound_plumbed cs s.args.x s.args.y f.sound)
 
 pub plumb-in-spec : {M : Type 1} → statement M
 plumb-in-spec =

@@ -4,14 +4,14 @@ use native.Mathlib.Omega.{arith}
 use borrow.Author.Rules.{rules}
 use lib.Dec.{lit≤}
 use lib.Seq.{length-take-le}
-use Rattle.touches.specs.Limits.{mostTouches}
+use Rattle.touches.specs.Limits.{most_touches}
 use Rattle.records.specs.Record.{AreBytes}
-use Rattle.records.proofs.CopyLaws.{read-few, copy_gives, copy-refused}
+use Rattle.records.proofs.CopyLaws.{read_few, copy_gives, copy_refused}
 use Rattle.records.proofs.copy.Statement.{statement}
 use Rattle.records.proofs.copy.Tie as tie
 
-few : (c : tie.After-n) → c.n.given.0.0 * 3 ≤ mostTouches * 3
-few c = read-few c.before.before.before.read.ensures c.n.given.1
+few : (c : tie.After-n) → c.n.given.0.0 * 3 ≤ most_touches * 3
+few c = read_few c.before.before.before.read.ensures c.n.given.1
 
 bytes : (c : tie.After-shared-slice-known) → AreBytes c.before.args.bytes.now
 bytes c = record { small = λ i. omega (arith, c.shared-slice-known.given i) }
@@ -43,7 +43,7 @@ write-requires : tie.Need-write-requires
 write-requires c κs = search rules
 
 returns : tie.Need-returns
-returns c = copy-refused c.before.before.before.before.read.ensures (lit≤ tt) c.before.x.given.1
+returns c = copy_refused c.before.before.before.before.read.ensures (lit≤ tt) c.before.x.given.1
 
 same_length : tie.Need-same-length
 same_length c = search rules

@@ -7,13 +7,13 @@ use Prim.Native.Nat.{◌-◌, ◌+◌}
 use native.Mathlib.Omega.{arith}
 use lib.ListN.{drop}
 use Rattle.laws.specs.Lists.{every}
-use Rattle.table.specs.Table.{facesIn, among}
-use Rattle.table.proofs.TableLaws.{among-turn, among-end}
+use Rattle.table.specs.Table.{faces_in, among}
+use Rattle.table.proofs.TableLaws.{among_turn, among_end}
 use Rattle.table.proofs.all_among.Statement.{statement}
 use Rattle.table.proofs.all_among.Tie as tie
 
 abbrev invariant-loop : tie.invariant-loop
-invariant-loop faces n m i₀ i = every (among n) (facesIn faces) ≡ every (among n) (drop i (facesIn faces))
+invariant-loop faces n m i₀ i = every (among n) (faces_in faces) ≡ every (among n) (drop i (faces_in faces))
 
 abbrev decreases-loop : tie.decreases-loop
 decreases-loop faces n m i₀ i = m - i
@@ -22,12 +22,12 @@ decreases-loop faces n m i₀ i = m - i
 turn : (c : tie.After-is-among invariant-loop decreases-loop) {b : Bool} → c.is_among.result ≡ b
     → let l = c.before.before.before.loop in
     let a = c.before.before.before.before.before.before.args in
-    every (among a.n) (facesIn a.faces.now) ≡ b && every (among a.n) (drop (l.i + 1) (facesIn a.faces.now))
+    every (among a.n) (faces_in a.faces.now) ≡ b && every (among a.n) (drop (l.i + 1) (faces_in a.faces.now))
 turn c e =
     let l = c.before.before.before.loop in
     let m = c.before.before.before.before.room in
     let a = c.before.before.before.before.before.before.args in
-    l.invariant ∙ among-turn a.n a.faces.now l.i (omega (arith, m.ensures)) c.before.face.ensures (sym e ∙ c.is_among.ensures)
+    l.invariant ∙ among_turn a.n a.faces.now l.i (omega (arith, m.ensures)) c.before.face.ensures (sym e ∙ c.is_among.ensures)
 
 room-requires : tie.Need-room-requires invariant-loop decreases-loop
 room-requires c κs = search rules
@@ -60,7 +60,7 @@ returns-2 : tie.Need-returns-2 invariant-loop decreases-loop
 returns-2 c =
     let l = c.before.loop in
     let a = c.before.before.before.before.args in
-    sym (l.invariant ∙ among-end a.n a.faces.now l.i (omega (arith, c.before.before.room.ensures)))
+    sym (l.invariant ∙ among_end a.n a.faces.now l.i (omega (arith, c.before.before.room.ensures)))
 
 pub all-among-spec : {M : Type 1} → statement M
 all-among-spec =

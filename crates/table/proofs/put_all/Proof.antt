@@ -7,7 +7,7 @@ use lib.ListN.{length, take}
 use Rattle.laws.specs.Lists.{Laid}
 use Rattle.laws.proofs.Tables.{laid_none, laid_then}
 use Rattle.table.specs.Table.{stride, lent}
-use Rattle.table.proofs.TableLaws.{lent-more, lent-all}
+use Rattle.table.proofs.TableLaws.{lent_more, lent_all}
 use Rattle.table.proofs.put_all.Statement.{statement}
 use Rattle.table.proofs.put_all.Tie as tie
 
@@ -43,7 +43,7 @@ loop-again c =
       search rules,
       omega (arith, q.ensures.next, l.invariant.1),
       q.auto.0 ∙ l.invariant.2,
-      rw (lent-more a.hull.now l.i (search rules)) (laid_then l.invariant.3 (omega arith) q.ensures),
+      rw (lent_more a.hull.now l.i (search rules)) (laid_then l.invariant.3 (omega arith) q.ensures),
     )
 
 same_length : tie.Need-same-length invariant-loop decreases-loop
@@ -52,7 +52,7 @@ same_length c = search rules
 returns : tie.Need-returns invariant-loop decreases-loop
 returns c =
     let l = c.before.loop in
-    rw (← lent-all c.before.before.before.args.hull.now l.i (search rules)) l.invariant.3.table
+    rw (← lent_all c.before.before.before.args.hull.now l.i (search rules)) l.invariant.3.table
 
 pub put-all-spec : {M : Type 1} → statement M
 put-all-spec =

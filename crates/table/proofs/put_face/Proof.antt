@@ -1,7 +1,7 @@
 use borrow.Author.Rules.{rules}
 use native.Mathlib.Omega.{arith}
 use lib.ListN.{length-set}
-use Rattle.laws.proofs.Tables.{laid-three}
+use Rattle.laws.proofs.Tables.{laid_three}
 use Rattle.table.proofs.put_face.Statement.{statement}
 use Rattle.table.proofs.put_face.Tie as tie
 
@@ -45,7 +45,7 @@ same_length : tie.Need-same-length
 same_length c = search rules
 
 returns : tie.Need-returns
-returns c = laid-three c.args.at _ _ _ c.args.faces.now c.requires
+returns c = laid_three c.args.at _ _ _ c.args.faces.now c.requires
 
 pub put-face-spec : {M : Type 1} → statement M
 put-face-spec =

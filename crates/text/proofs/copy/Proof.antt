@@ -3,7 +3,7 @@ use Prim.Native.Nat.{◌≤◌, ◌-◌, ◌+◌}
 use borrow.Author.Rules.{rules}
 use lib.ListN.{length, take}
 use Rattle.laws.specs.Lists.{Laid}
-use Rattle.text.proofs.RoomLaws.{laid-start, laid_next, laid-all}
+use Rattle.text.proofs.RoomLaws.{laid_start, laid_next, laid_all}
 use Rattle.text.proofs.copy.Statement.{statement}
 use Rattle.text.proofs.copy.Tie as tie
 
@@ -14,7 +14,7 @@ abbrev decreases-loop : tie.decreases-loop
 decreases-loop text₀ at new i₀ text i = length new - i
 
 loop-holds : tie.Need-loop-init invariant-loop decreases-loop
-loop-holds c = (search rules, refl, laid-start _ _)
+loop-holds c = (search rules, refl, laid_start _ _)
 
 shared-slice-read-text : tie.Need-shared-slice-read-text invariant-loop decreases-loop
 shared-slice-read-text c = search rules
@@ -44,7 +44,7 @@ same_length : tie.Need-same-length invariant-loop decreases-loop
 same_length c = search rules
 
 returns : tie.Need-returns invariant-loop decreases-loop
-returns c = laid-all c.before.before.args.at c.before.before.args.new.now c.before.loop.i (search rules) c.before.loop.invariant.2
+returns c = laid_all c.before.before.args.at c.before.before.args.new.now c.before.loop.i (search rules) c.before.loop.invariant.2
 
 pub copy_spec : {M : Type 1} → statement M
 copy_spec =

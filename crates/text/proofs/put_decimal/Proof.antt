@@ -1,4 +1,4 @@
-use Rattle.text.proofs.SpellLaws.{spelled-part}
+use Rattle.text.proofs.SpellLaws.{spelled_part}
 use borrow.Author.Rules.{rules}
 use Rattle.text.proofs.put_decimal.Statement.{statement}
 use Rattle.text.proofs.put_decimal.Tie as tie
@@ -25,7 +25,7 @@ same_length : tie.Need-same-length
 same_length c = search rules
 
 returns : tie.Need-returns
-returns c = rw (spelled-part c.before.before.before.before.before.before.before.spell.ensures) at c.before.before.put-bytes.ensures
+returns c = rw (spelled_part c.before.before.before.before.before.before.before.spell.ensures) at c.before.before.put-bytes.ensures
 
 pub put-decimal-spec : {M : Type 1} → statement M
 put-decimal-spec =

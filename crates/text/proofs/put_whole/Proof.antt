@@ -2,7 +2,7 @@ use mathlib.Core.Path.{ap, ◌∙◌}
 use Rattle.text.specs.Decimal.{whole}
 use mir.Syntax.{w64}
 use mir.ValLaws.{to_z-of_z}
-use Rattle.text.proofs.SpellLaws.{spelled-part}
+use Rattle.text.proofs.SpellLaws.{spelled_part}
 use borrow.Author.Rules.{rules}
 use Rattle.text.proofs.put_whole.Statement.{statement}
 use Rattle.text.proofs.put_whole.Tie as tie
@@ -31,7 +31,7 @@ same_length c = search rules
 returns : tie.Need-returns
 returns c =
     let s = c.before.before.before.before.before.before.before.before.before.before in
-    let text = spelled-part c.before.before.before.before.before.before.before.spell-whole.ensures ∙ ap whole (to_z-of_z w64 s.args.z s.ranges.z) in
+    let text = spelled_part c.before.before.before.before.before.before.before.spell-whole.ensures ∙ ap whole (to_z-of_z w64 s.args.z s.ranges.z) in
     rw text at c.before.before.put-bytes.ensures
 
 pub put-whole-spec : {M : Type 1} → statement M

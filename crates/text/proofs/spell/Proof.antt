@@ -1,7 +1,7 @@
 use lib.ListN.{length-set}
 use native.Mathlib.Omega.{arith}
 use borrow.Author.Rules.{rules}
-use Rattle.text.proofs.SpellLaws.{Spelling, spelling-none, spelling-left, spelling-more, spelled}
+use Rattle.text.proofs.SpellLaws.{Spelling, spelling_none, spelling_left, spelling_more, spelled}
 use Rattle.text.proofs.spell.Statement.{statement}
 use Rattle.text.proofs.spell.Tie as tie
 
@@ -15,7 +15,7 @@ sub_at : tie.Need-overflow-sub-at invariant-loop decreases-loop
 sub_at c = search rules
 
 loop-holds : tie.Need-loop-init invariant-loop decreases-loop
-loop-holds c = spelling-none _ _ c.before.requires (search rules)
+loop-holds c = spelling_none _ _ c.before.requires (search rules)
 
 digit-requires : tie.Need-digit-requires invariant-loop decreases-loop
 digit-requires c κs = search rules
@@ -24,13 +24,13 @@ slice-write-out : tie.Need-slice-write-out invariant-loop decreases-loop
 slice-write-out c = search rules
 
 sub-at-2 : tie.Need-overflow-sub-at-2 invariant-loop decreases-loop
-sub-at-2 c = spelling-left c.before.before.loop.invariant (search rules)
+sub-at-2 c = spelling_left c.before.before.loop.invariant (search rules)
 
 loop-less : tie.Need-loop-smaller invariant-loop decreases-loop
 loop-less c = search rules
 
 loop-again : tie.Need-loop-preserved invariant-loop decreases-loop
-loop-again c = rw c.digit.ensures (spelling-more c.before.before.loop.invariant (search rules))
+loop-again c = rw c.digit.ensures (spelling_more c.before.before.loop.invariant (search rules))
 
 digit-requires-2 : tie.Need-digit-requires-2 invariant-loop decreases-loop
 digit-requires-2 c κs = search rules

@@ -9,8 +9,8 @@ use mir.ValLaws.{to_z-of_z}
 use mir.Facts.{Fits-nat_abs, sfits_to_z, Fits-of_z}
 use Rattle.text.specs.Decimal.{decimal}
 use Rattle.text.specs.Inner.{Spelled}
-use Rattle.text.proofs.WholeLaws.{not-below, is_below, text-not-below}
-use Rattle.text.proofs.SpellLaws.{sign-left, spelled-below}
+use Rattle.text.proofs.WholeLaws.{not_below, is_below, text_not_below}
+use Rattle.text.proofs.SpellLaws.{sign_left, spelled_below}
 use Rattle.text.proofs.spell_whole.Statement.{statement}
 use Rattle.text.proofs.spell_whole.Tie as tie
 
@@ -18,7 +18,7 @@ is : (c : tie.After-slice-known) → to_z w64 (of_z w64 c.before.args.z) ≡ c.b
 is c = to_z-of_z w64 c.before.args.z c.before.ranges.z
 
 sign : (c : tie.Then1) → T (non_neg (to_z w64 (of_z w64 c.before.before.args.z)))
-sign c = not-below (to_z w64 (of_z w64 c.before.before.args.z)) c.if1.true
+sign c = not_below (to_z w64 (of_z w64 c.before.before.args.z)) c.if1.true
 
 below : (c : tie.Else1) → to_z w64 (of_z w64 c.before.before.args.z) <ℤ pos 0
 below c = is_below (to_z w64 (of_z w64 c.before.before.args.z)) c.if1.false
@@ -27,7 +27,7 @@ below-z : (c : tie.Else1) → c.before.before.args.z <ℤ pos 0
 below-z c = rw (is c.before) at (below c)
 
 spelled : (c : tie.After-spell2) → Spelled (decimal (nat_abs c.before.before.before.before.before.args.z)) c.spell2.result c.spell2.new.0
-spelled c = rw (c.before.below-zero.ensures ∙ ap nat_abs (is c.before.before.before.before)) at c.spell2.ensures
+spelled c = rw (c.before.below_zero.ensures ∙ ap nat_abs (is c.before.before.before.before)) at c.spell2.ensures
 
 cast-spell : tie.Need-overflow-cast-spell
 cast-spell c = (sign c.before, Fits-nat_abs tt (sfits_to_z (Fits-of_z c.before.before.before.ranges.z)))
@@ -39,7 +39,7 @@ same_length : tie.Need-same-length
 same_length c = search rules
 
 returns : tie.Need-returns
-returns c = let t = c.before.before.before.before in rw (← is t.before, text-not-below (to_z w64 (of_z w64 t.before.before.args.z)) (sign t)) c.before.before.spell.ensures
+returns c = let t = c.before.before.before.before in rw (← is t.before, text_not_below (to_z w64 (of_z w64 t.before.before.args.z)) (sign t)) c.before.before.spell.ensures
 
 below-zero-requires : tie.Need-below-zero-requires
 below-zero-requires c κs = below c.before
@@ -48,7 +48,7 @@ spell-requires-2 : tie.Need-spell-requires-2
 spell-requires-2 c κs = search rules
 
 sub-first : tie.Need-overflow-sub-first
-sub-first c = let e = c.before.before.before.before.before in sign-left (below-z e) e.before.before.ranges.z (spelled c.before.before)
+sub-first c = let e = c.before.before.before.before.before in sign_left (below-z e) e.before.before.ranges.z (spelled c.before.before)
 
 slice-write-out : tie.Need-slice-write-out
 slice-write-out c = search rules
@@ -57,7 +57,7 @@ same-length-2 : tie.Need-same-length-2
 same-length-2 c = search rules
 
 returns-2 : tie.Need-returns-2
-returns-2 c = let e = c.before.before.before.before.before in spelled-below (below-z e) e.before.before.ranges.z (spelled c.before.before) (c.before.before.spell2.auto.0 ∙ e.before.before.requires)
+returns-2 c = let e = c.before.before.before.before.before in spelled_below (below-z e) e.before.before.ranges.z (spelled c.before.before) (c.before.before.spell2.auto.0 ∙ e.before.before.requires)
 
 pub spell-whole-spec : {M : Type 1} → statement M
 spell-whole-spec =

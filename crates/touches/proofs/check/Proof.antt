@@ -1,8 +1,8 @@
 use borrow.Author.Rules.{rules}
 use borrow.Author.Tests.{eq-eqb, ne_eqb, le-leb, lt-leb}
 use mathlib.Core.Path.{sym, ◌∙◌, ap}
-use Rattle.touches.specs.Check.{ofStray}
-use Rattle.touches.specs.Touches.{touchCount}
+use Rattle.touches.specs.Check.{of_stray}
+use Rattle.touches.specs.Touches.{touch_count}
 use Rattle.touches.specs.declared.Checked.TheVariants.{Refused}
 use Rattle.touches.proofs.check.Statement.{statement}
 use Rattle.touches.proofs.check.Tie as tie
@@ -34,12 +34,12 @@ enum-known-k c = search rules
 returns-3 : tie.Need-returns-3
 returns-3 c =
     simp (eq-eqb _ _ c.before.before.before.before.if1.false, le-leb _ _ c.before.before.before.if2.false)
-    (ap (ofStray (touchCount c.before.before.before.before.before.args.coords.now)) (sym c.enum_told.given.1 ∙ c.before.before.first-stray.ensures))
+    (ap (of_stray (touch_count c.before.before.before.before.before.args.coords.now)) (sym c.enum_told.given.1 ∙ c.before.before.first-stray.ensures))
 
 returns-4 : tie.Need-returns-4
 returns-4 c =
     simp (eq-eqb _ _ c.before.before.before.before.before.if1.false, le-leb _ _ c.before.before.before.before.if2.false)
-    (ap (ofStray (touchCount c.before.before.before.before.before.before.args.coords.now)) (sym c.before.k.given.1 ∙ c.before.before.before.first-stray.ensures))
+    (ap (of_stray (touch_count c.before.before.before.before.before.before.args.coords.now)) (sym c.before.k.given.1 ∙ c.before.before.before.first-stray.ensures))
 
 pub check-spec : {M : Type 1} → statement M
 check-spec =

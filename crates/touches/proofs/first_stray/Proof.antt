@@ -7,13 +7,13 @@ use borrow.Author.Rules.{rules, sfits_of}
 use borrow.Author.Tests.{not-true, not-false}
 use Rattle.laws.proofs.Words.{wide_fits, wide_is}
 use Rattle.touches.specs.Limits.{in_range}
-use Rattle.touches.specs.Check.{strayFrom}
-use Rattle.touches.proofs.StrayLaws.{stray-here, stray-past, stray-none}
+use Rattle.touches.specs.Check.{stray_from}
+use Rattle.touches.proofs.StrayLaws.{stray_here, stray_past, stray_none}
 use Rattle.touches.proofs.first_stray.Statement.{statement}
 use Rattle.touches.proofs.first_stray.Tie as tie
 
 abbrev invariant-loop : tie.invariant-loop
-invariant-loop coords i₀ i = (i ≤ length coords) × (strayFrom 0 coords ≡ strayFrom i (drop i coords))
+invariant-loop coords i₀ i = (i ≤ length coords) × (stray_from 0 coords ≡ stray_from i (drop i coords))
 
 abbrev decreases-loop : tie.decreases-loop
 decreases-loop coords i₀ i = length coords - i
@@ -44,7 +44,7 @@ returns : tie.Need-returns invariant-loop decreases-loop
 returns c =
     let l = c.before.before.before.before.loop in
     let s = c.before.before.before.before.before.args.coords.now in
-    sym (l.invariant.1 ∙ stray-here s l.i (search rules) (asked c.before ∙ not-true _ c.if1.true))
+    sym (l.invariant.1 ∙ stray_here s l.i (search rules) (asked c.before ∙ not-true _ c.if1.true))
 
 add-i : tie.Need-overflow-add-i invariant-loop decreases-loop
 add-i c = search rules
@@ -56,12 +56,12 @@ loop-again : tie.Need-loop-preserved invariant-loop decreases-loop
 loop-again c =
     let l = c.before.before.before.before.loop in
     let s = c.before.before.before.before.before.args.coords.now in
-    (search rules, l.invariant.1 ∙ stray-past s l.i (search rules) (asked c.before ∙ not-false _ c.if1.false))
+    (search rules, l.invariant.1 ∙ stray_past s l.i (search rules) (asked c.before ∙ not-false _ c.if1.false))
 
 returns-2 : tie.Need-returns-2 invariant-loop decreases-loop
 returns-2 c =
     let l = c.before.loop in
-    sym (l.invariant.1 ∙ stray-none c.before.before.args.coords.now l.i l.invariant.0 (search rules))
+    sym (l.invariant.1 ∙ stray_none c.before.before.args.coords.now l.i l.invariant.0 (search rules))
 
 pub first-stray-spec : {M : Type 1} → statement M
 first-stray-spec =

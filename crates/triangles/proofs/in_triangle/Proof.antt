@@ -1,8 +1,8 @@
 use borrow.Author.Rules.{rules}
 use mathlib.Core.Path.{◌∙◌, ap₂}
 use mathlib.Core.Bool.{◌&&◌}
-use Rattle.volume.specs.SameWay.{sameWay}
-use Rattle.volume.proofs.SameWayLaws.{in-triangle-is}
+use Rattle.volume.specs.SameWay.{same_way}
+use Rattle.volume.proofs.SameWayLaws.{in_triangle_is}
 use Rattle.triangles.proofs.in_triangle.Statement.{statement}
 use Rattle.triangles.proofs.in_triangle.Tie as tie
 
@@ -31,10 +31,10 @@ returns : tie.Need-returns
 returns c =
     let s = c.before.before.before.before.before.before.before in
     let n = c.before.before.before.before.before.before.normal.ensures.is in
-    let ab = c.before.before.before.before.same_way.ensures ∙ ap₂ sameWay n c.before.before.before.before.before.normal2.ensures.is in
-    let bc = c.before.before.same-way2.ensures ∙ ap₂ sameWay n c.before.before.before.normal3.ensures.is in
-    let ca = c.same-way3.ensures ∙ ap₂ sameWay n c.before.normal4.ensures.is in
-    ap₂ ◌&&◌ (ap₂ ◌&&◌ ab bc) ca ∙ in-triangle-is s.args.a s.args.b s.args.c s.args.q s.requires.4
+    let ab = c.before.before.before.before.same_way.ensures ∙ ap₂ same_way n c.before.before.before.before.before.normal2.ensures.is in
+    let bc = c.before.before.same-way2.ensures ∙ ap₂ same_way n c.before.before.before.normal3.ensures.is in
+    let ca = c.same-way3.ensures ∙ ap₂ same_way n c.before.normal4.ensures.is in
+    ap₂ ◌&&◌ (ap₂ ◌&&◌ ab bc) ca ∙ in_triangle_is s.args.a s.args.b s.args.c s.args.q s.requires.4
 
 pub in-triangle-spec : {M : Type 1} → statement M
 in-triangle-spec =

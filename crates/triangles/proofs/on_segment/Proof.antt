@@ -4,7 +4,7 @@ use mathlib.Core.Bool.{Bool, ◌&&◌}
 use lib.IntN.{ℤ}
 use Rattle.laws.specs.Numbers.{Within}
 use Rattle.touches.specs.Limits.{reach}
-use Rattle.volume.specs.Triangle.{between, onSegment}
+use Rattle.volume.specs.Triangle.{between, on_segment}
 use Rattle.points.proofs.NumberLaws.{rd, passed}
 use Rattle.triangles.proofs.on_segment.Statement.{statement}
 use Rattle.triangles.proofs.on_segment.Tie as tie
@@ -32,11 +32,11 @@ between-requires-3 : tie.Need-between-requires-3
 between-requires-3 c κs = search rules
 
 returns : tie.Need-returns
-unfolding onSegment
+unfolding on_segment
 returns c =
     let l = c.before.before.before.before.before.before.before.before.before.before.before.before.before.before.before in
     let h = l.before.before.before.requires in
-    let lines = ap₂ ◌&&◌ (ap₂ ◌&&◌ l.before.before.in-line.ensures l.before.in-line2.ensures) l.in-line3.ensures in
+    let lines = ap₂ ◌&&◌ (ap₂ ◌&&◌ l.before.before.in_line.ensures l.before.in-line2.ensures) l.in-line3.ensures in
     let x = along h.0.x h.1.x h.2.x h.3.x c.before.before.before.before.before.before.before.before.before.before.between.ensures in
     let y = along h.0.y h.1.y h.2.y h.3.y c.before.before.before.before.before.between2.ensures in
     let z = along h.0.z h.1.z h.2.z h.3.z c.between3.ensures in

@@ -3,14 +3,14 @@ use mathlib.Core.Path.{◌≡◌, ◌∙◌, ap, ap₂}
 use mathlib.Core.Bool.{Bool, not, ◌&&◌}
 use lib.IntN.{ℤ}
 use Rattle.laws.specs.Numbers.{Within}
-use Rattle.volume.specs.Volume.{mostNormal}
-use Rattle.volume.specs.SameWay.{opposed, sameWay}
+use Rattle.volume.specs.Volume.{most_normal}
+use Rattle.volume.specs.SameWay.{opposed, same_way}
 use Rattle.points.proofs.NumberLaws.{rd, passed}
 use Rattle.triangles.proofs.same_way.Statement.{statement}
 use Rattle.triangles.proofs.same_way.Tie as tie
 
 -- along one axis
-along : {n m : ℤ} {b : Bool} → Within mostNormal n → Within mostNormal m → b ≡ opposed (rd n) (rd m) → not b ≡ not (opposed n m)
+along : {n m : ℤ} {b : Bool} → Within most_normal n → Within most_normal m → b ≡ opposed (rd n) (rd m) → not b ≡ not (opposed n m)
 along h k e = ap not (e ∙ ap₂ opposed (passed tt h) (passed tt k))
 
 opposed-requires : tie.Need-opposed-requires
@@ -23,7 +23,7 @@ opposed-requires-3 : tie.Need-opposed-requires-3
 opposed-requires-3 c κs = search rules
 
 returns : tie.Need-returns
-unfolding sameWay
+unfolding same_way
 returns c =
     let h = c.before.before.before.before.before.before.before.before.before.requires in
     let x = along h.0.x h.1.x c.before.before.before.before.before.before.opposed.ensures in

@@ -1,7 +1,7 @@
 use borrow.Author.Rules.{rules}
 use native.Mathlib.Omega.{arith}
 use Rattle.border.specs.Marks.{unmarked}
-use Rattle.border.proofs.ConeLaws.{face-length, face-laid}
+use Rattle.border.proofs.ConeLaws.{face_length, face_laid}
 use Rattle.border.proofs.cone.add_sides.Statement.{statement}
 use Rattle.border.proofs.cone.add_sides.Tie as tie
 
@@ -15,7 +15,7 @@ add-side-requires : tie.Need-add-side-requires
 add-side-requires c κs =
     let s = c.before.before in
     let h = s.requires in
-    (h.0, h.1.a, h.1.b, h.2, omega (arith, h.3, face-length (unmarked s.args.marks.now s.args.w s.args.k.0) s.args.k.0 s.args.t5))
+    (h.0, h.1.a, h.1.b, h.2, omega (arith, h.3, face_length (unmarked s.args.marks.now s.args.w s.args.k.0) s.args.k.0 s.args.t5))
 
 array-read-t14-2 : tie.Need-array-read-t14-2
 array-read-t14-2 c = search rules
@@ -28,7 +28,7 @@ add-side-requires-2 c κs =
     let s = c.before.before.before.before.before in
     let h = s.requires in
     let one = c.before.before.add-side in
-    (h.0, h.1.b, h.1.c, h.2, omega (arith, h.3, one.ensures.next, one.auto.0, face-length (unmarked s.args.marks.now s.args.w s.args.k.0) s.args.k.0 s.args.t5))
+    (h.0, h.1.b, h.1.c, h.2, omega (arith, h.3, one.ensures.next, one.auto.0, face_length (unmarked s.args.marks.now s.args.w s.args.k.0) s.args.k.0 s.args.t5))
 
 array-read-t14-3 : tie.Need-array-read-t14-3
 array-read-t14-3 c = search rules
@@ -42,7 +42,7 @@ add-side-requires-3 c κs =
     let h = s.requires in
     let one = c.before.before.before.before.before.add-side in
     let two = c.before.before.add-side2 in
-    (h.0, h.1.c, h.1.a, h.2, omega (arith, h.3, one.ensures.next, two.ensures.next, one.auto.0, two.auto.0, face-length (unmarked s.args.marks.now s.args.w s.args.k.0) s.args.k.0 s.args.t5))
+    (h.0, h.1.c, h.1.a, h.2, omega (arith, h.3, one.ensures.next, two.ensures.next, one.auto.0, two.auto.0, face_length (unmarked s.args.marks.now s.args.w s.args.k.0) s.args.k.0 s.args.t5))
 
 same_length : tie.Need-same-length
 same_length c = search rules
@@ -53,7 +53,7 @@ returns c =
     let a = s.args in
     let one = c.before.before.before.before.before.before.before.add-side in
     let two = c.before.before.before.before.add-side2 in
-    face-laid (unmarked a.marks.now a.w a.k.0) a.k.0 a.t5 (omega (arith, s.requires.3)) one.ensures two.ensures c.before.add-side3.ensures
+    face_laid (unmarked a.marks.now a.w a.k.0) a.k.0 a.t5 (omega (arith, s.requires.3)) one.ensures two.ensures c.before.add-side3.ensures
 
 pub add-sides-spec : {M : Type 1} → statement M
 add-sides-spec =

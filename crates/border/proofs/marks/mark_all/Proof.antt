@@ -5,15 +5,15 @@ use mathlib.Core.List.{[]}
 use Prim.Native.Nat.{◌-◌}
 use native.Mathlib.Omega.{arith}
 use lib.ListN.{length, drop}
-use Rattle.laws.proofs.Members.{getD-in}
+use Rattle.laws.proofs.Members.{get_or_in}
 use Rattle.rules.specs.Faces.{sides}
-use Rattle.border.specs.Marks.{markSides}
-use Rattle.border.proofs.MarkLaws.{face-turn, face-end, all-marked, all-fresh}
+use Rattle.border.specs.Marks.{mark_sides}
+use Rattle.border.proofs.MarkLaws.{face_turn, face_end, all_marked, all_fresh}
 use Rattle.border.proofs.marks.mark_all.Statement.{statement}
 use Rattle.border.proofs.marks.mark_all.Tie as tie
 
 abbrev invariant-loop : tie.invariant-loop
-invariant-loop marks₀ w seen k i₀ marks i = (length marks ≡ length marks₀) × (markSides w k.0 (sides seen) marks₀ ≡ markSides w k.0 (sides (drop i seen)) marks)
+invariant-loop marks₀ w seen k i₀ marks i = (length marks ≡ length marks₀) × (mark_sides w k.0 (sides seen) marks₀ ≡ mark_sides w k.0 (sides (drop i seen)) marks)
 
 abbrev decreases-loop : tie.decreases-loop
 decreases-loop marks₀ w seen k i₀ marks i = length seen - i
@@ -31,7 +31,7 @@ mark-sides-requires : tie.Need-mark-sides-requires invariant-loop decreases-loop
 mark-sides-requires c κs =
     let l = c.before.before.before.loop in
     let s = c.before.before.before.before.before in
-    (record { few = s.requires.0.few; room = omega (arith, l.invariant.0, s.requires.0.room) }, s.requires.3 _ (getD-in s.args.seen.now l.i [] (search rules)), s.requires.2)
+    (record { few = s.requires.0.few; room = omega (arith, l.invariant.0, s.requires.0.room) }, s.requires.3 _ (get_or_in s.args.seen.now l.i [] (search rules)), s.requires.2)
 
 add-i : tie.Need-overflow-add-i invariant-loop decreases-loop
 add-i c = search rules
@@ -44,7 +44,7 @@ loop-again c =
     let l = c.before.before.before.before.before.before.loop in
     let a = c.before.before.before.before.before.before.before.before.args in
     let q = c.before.before.mark-sides in
-    (q.auto.0 ∙ l.invariant.0, l.invariant.1 ∙ face-turn a.w a.k.0 a.seen.now l.i l.marks (search rules) ∙ rw q.ensures)
+    (q.auto.0 ∙ l.invariant.0, l.invariant.1 ∙ face_turn a.w a.k.0 a.seen.now l.i l.marks (search rules) ∙ rw q.ensures)
 
 same_length : tie.Need-same-length invariant-loop decreases-loop
 same_length c = search rules
@@ -54,8 +54,8 @@ returns c =
     let l = c.before.loop in
     let s = c.before.before.before in
     let a = s.args in
-    let e = l.invariant.1 ∙ face-end a.w a.k.0 a.seen.now l.i l.marks (search rules) in
-    (all-marked s.requires.0 s.requires.1 s.requires.3 e, all-fresh s.requires.0 s.requires.1 s.requires.3 e)
+    let e = l.invariant.1 ∙ face_end a.w a.k.0 a.seen.now l.i l.marks (search rules) in
+    (all_marked s.requires.0 s.requires.1 s.requires.3 e, all_fresh s.requires.0 s.requires.1 s.requires.3 e)
 
 pub mark-all-spec : {M : Type 1} → statement M
 mark-all-spec =

@@ -3,10 +3,10 @@ use mathlib.Core.Path.{◌≡◌, refl, sym, ap, ◌∙◌}
 use Rattle.touches.specs.declared.Checked.{Checked}
 use Rattle.touches.specs.declared.Checked.TheVariants.{Accepted}
 use Rattle.touches.specs.Touches.{touch}
-use Rattle.touches.specs.Check.{checked, ifAccepted}
-use Rattle.touches.proofs.SoundLaws.{accepted-sound}
+use Rattle.touches.specs.Check.{checked, if_accepted}
+use Rattle.touches.proofs.SoundLaws.{accepted_sound}
 use Rattle.table.specs.Table.{room}
-use Rattle.hull.specs.Build.{hullOf, builtFrom}
+use Rattle.hull.specs.Build.{hull_of, built_from}
 use Rattle.hull.specs.declared.build.Built.TheVariants.{Refused}
 use Rattle.hull.proofs.build.build.Statement.{statement}
 use Rattle.hull.proofs.build.build.Tie as tie
@@ -27,7 +27,7 @@ enum-known-list c = search rules
 build-checked-requires : tie.Need-build-checked-requires
 build-checked-requires c κs =
     let k = c.before in
-    let p = accepted-sound k.before.before.before.before.before.args.coords.now k.before.list.given.0.0 (accepted k) in
+    let p = accepted_sound k.before.before.before.before.before.args.coords.now k.before.list.given.0.0 (accepted k) in
     (p.sound, p.count)
 
 returns : tie.Need-returns
@@ -35,7 +35,7 @@ returns c =
     let a = c.before.before.before.before.before.args in
     let cs = a.coords.now in
     let e = sym c.before.before.before.check.ensures ∙ c.before.r.given.1 in
-    (sym (ap (λ (k : Checked). ifAccepted k Refused (builtFrom (touch cs) (room a.faces.now) (hullOf cs))) e), refl)
+    (sym (ap (λ (k : Checked). if_accepted k Refused (built_from (touch cs) (room a.faces.now) (hull_of cs))) e), refl)
 
 same_length : tie.Need-same-length
 same_length c = search rules
@@ -46,7 +46,7 @@ returns-2 c =
     let a = k.before.before.before.before.before.args in
     let cs = a.coords.now in
     let q = c.before.before.build-checked in
-    (q.ensures.answer ∙ sym (ap (λ (k : Checked). ifAccepted k Refused (builtFrom (touch cs) (room a.faces.now) (hullOf cs))) (accepted k)), q.ensures.table)
+    (q.ensures.answer ∙ sym (ap (λ (k : Checked). if_accepted k Refused (built_from (touch cs) (room a.faces.now) (hull_of cs))) (accepted k)), q.ensures.table)
 
 pub build-spec : {M : Type 1} → statement M
 build-spec =

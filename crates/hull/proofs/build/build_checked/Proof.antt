@@ -3,18 +3,18 @@ use mathlib.Core.Path.{◌≡◌, refl, sym, ap, ◌∙◌}
 use Rattle.touches.specs.Touches.{touch}
 use Rattle.rules.specs.Start.{start}
 use Rattle.table.specs.Table.{room}
-use Rattle.hull.specs.Start.{startedOf}
-use Rattle.hull.specs.Build.{builtFrom}
+use Rattle.hull.specs.Start.{started_of}
+use Rattle.hull.specs.Build.{built_from}
 use Rattle.hull.specs.declared.build.Built.TheVariants.{Refused}
 use Rattle.hull.specs.declared.start.Started.TheVariants.{From}
-use Rattle.hull.proofs.RaiseLaws.{hull-flat, begun}
+use Rattle.hull.proofs.RaiseLaws.{hull_flat, begun}
 use Rattle.hull.proofs.build.build_checked.Statement.{statement}
 use Rattle.hull.proofs.build.build_checked.Tie as tie
 
 -- the start that was found
 found : (c : tie.After-known-told)
     → let a = c.before.before.before.before.before.args in
-    From c.before.s.given.0.0 ≡ startedOf (start (touch a.coords.now) a.n)
+    From c.before.s.given.0.0 ≡ started_of (start (touch a.coords.now) a.n)
 found c = sym c.before.s.given.1 ∙ c.before.before.before.find-start.ensures
 
 find-start-requires : tie.Need-find-start-requires
@@ -39,8 +39,8 @@ returns : tie.Need-returns
 returns c =
     let s = c.before.before.before.before.before in
     let cs = s.args.coords.now in
-    let e = hull-flat cs s.requires.1 (sym c.before.enum_told.given.1 ∙ c.before.before.before.find-start.ensures) in
-    record { answer = ap Refused c.because.ensures ∙ sym (ap (builtFrom (touch cs) (room s.args.faces.now)) e); table = refl }
+    let e = hull_flat cs s.requires.1 (sym c.before.enum_told.given.1 ∙ c.before.before.before.find-start.ensures) in
+    record { answer = ap Refused c.because.ensures ∙ sym (ap (built_from (touch cs) (room s.args.faces.now)) e); table = refl }
 
 same_length : tie.Need-same-length
 same_length c = search rules

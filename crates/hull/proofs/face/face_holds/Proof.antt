@@ -14,8 +14,8 @@ use Rattle.touches.specs.Touches.{touch, plain}
 use Rattle.touches.proofs.PlainLaws.{plain_at}
 use Rattle.volume.specs.Volume.{Vol}
 use Rattle.volume.specs.Triangle.{contains}
-use Rattle.rules.specs.Faces.{Places, corner, faceVol}
-use Rattle.hull.proofs.PlaceLaws.{flat-zero, holds_by}
+use Rattle.rules.specs.Faces.{Places, corner, face_vol}
+use Rattle.hull.proofs.PlaceLaws.{flat_zero, holds_by}
 use Rattle.hull.proofs.face.face_holds.Statement.{statement}
 use Rattle.hull.proofs.face.face_holds.Tie as tie
 
@@ -47,7 +47,7 @@ touch-requires-3 : tie.Need-touch-requires-3
 touch-requires-3 c κs = let s = c.before.before.before.before.before.before in (s.requires.0, omega (arith, plain_at s.args.t2 2))
 
 contains-requires : tie.Need-contains-requires
-unfolding faceVol
+unfolding face_vol
 contains-requires c κs =
     let e = c.before.before.before.before.before.before in
     let s = e.before in
@@ -55,7 +55,7 @@ contains-requires c κs =
     let a = c.before.before.before.before.touch.ensures in
     let b = c.before.before.touch2.ensures in
     let d = c.touch3.ensures in
-    let z = flat-zero (touch s.args.coords.now) (plain s.args.t2) s.args.q s.requires.3 (ap (λ (n : ℕ). eqb n 0) e.if1.false) refl in
+    let z = flat_zero (touch s.args.coords.now) (plain s.args.t2) s.args.q s.requires.3 (ap (λ (n : ℕ). eqb n 0) e.if1.false) refl in
     (a.small, b.small, d.small, s.requires.2, (λ i. Vol (at t s.args.t2 0 a.is i) (at t s.args.t2 1 b.is i) (at t s.args.t2 2 d.is i) s.args.q) ∙ z)
 
 returns-2 : tie.Need-returns-2

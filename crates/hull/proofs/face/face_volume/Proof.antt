@@ -2,8 +2,8 @@ use borrow.Author.Rules.{rules}
 use mathlib.Core.Path.{◌∙◌}
 use native.Mathlib.Omega.{arith}
 use Rattle.touches.proofs.PlainLaws.{plain_at}
-use Rattle.rules.specs.Faces.{faceVol}
-use Rattle.points.proofs.NumberLaws.{back, back-small}
+use Rattle.rules.specs.Faces.{face_vol}
+use Rattle.points.proofs.NumberLaws.{back, back_small}
 use Rattle.hull.proofs.face.face_volume.Statement.{statement}
 use Rattle.hull.proofs.face.face_volume.Tie as tie
 
@@ -29,13 +29,13 @@ volume-requires : tie.Need-volume-requires
 volume-requires c κs = search rules
 
 returns : tie.Need-returns
-unfolding faceVol
+unfolding face_vol
 returns c =
     let v = c.volume.ensures in
     let a = c.before.before.before.before.before.touch.ensures.is in
     let b = c.before.before.before.touch2.ensures.is in
     let d = c.before.touch3.ensures.is in
-    record { is = back tt v ∙ simp (a, b, d, plain_at); small = back-small tt v }
+    record { is = back tt v ∙ simp (a, b, d, plain_at); small = back_small tt v }
 
 pub face-volume-spec : {M : Type 1} → statement M
 face-volume-spec =

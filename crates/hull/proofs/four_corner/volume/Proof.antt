@@ -1,7 +1,7 @@
 use mathlib.Core.Path.{◌∙◌, sym}
 use Rattle.laws.proofs.Words.{size}
-use Rattle.volume.proofs.VolumeLaws.{vol-fourth}
-use Rattle.hull.proofs.FourCornerLaws.{ranges, steps-are}
+use Rattle.volume.proofs.VolumeLaws.{vol_fourth}
+use Rattle.hull.proofs.FourCornerLaws.{ranges, steps_are}
 use Rattle.hull.proofs.four_corner.volume.Statement.{statement}
 use Rattle.hull.proofs.four_corner.volume.Tie as tie
 
@@ -105,8 +105,8 @@ add-result-2 c = let h = (at-cz c).requires in search ranges depth 7
 returns : tie.Need-returns
 returns c =
     let a = (at-cz c).args in
-    let v = steps-are (at-cz c).requires in
-    record { is = v.is ∙ sym (vol-fourth a.a a.b a.c a.d); small = size v }
+    let v = steps_are (at-cz c).requires in
+    record { is = v.is ∙ sym (vol_fourth a.a a.b a.c a.d); small = size v }
 
 pub volume-spec : {M : Type 1} → statement M
 volume-spec =

@@ -2,7 +2,7 @@ use borrow.Author.Rules.{rules}
 use mathlib.Core.Path.{refl}
 use native.Mathlib.Omega.{arith}
 use lib.Dec.{lit≤}
-use Rattle.hull.proofs.BuildLaws.{marks-for, fresh-ones}
+use Rattle.hull.proofs.BuildLaws.{marks_for, fresh_ones}
 use Rattle.hull.proofs.rooms.build_from.Statement.{statement}
 use Rattle.hull.proofs.rooms.build_from.Tie as tie
 
@@ -31,7 +31,7 @@ build-in-requires : tie.Need-build-in-requires
 build-in-requires c κs =
     let h = c.before.before.before.before.before.before.before.requires in
     let few = c.before.before.before.before.before.if1.false in
-    (h, record { room = omega (arith, few); planes-long = refl; seen-long = refl; mark-table = marks-for h.sound few (lit≤ tt) }, fresh-ones _ tt)
+    (h, record { room = omega (arith, few); planes_long = refl; seen_long = refl; mark_table = marks_for h.sound few (lit≤ tt) }, fresh_ones _ tt)
 
 same-length-2 : tie.Need-same-length-2
 same-length-2 c = search rules

@@ -1,7 +1,7 @@
 use borrow.Author.Rules.{rules}
 use native.Mathlib.Omega.{arith}
-use Rattle.hull.proofs.RaiseLaws.{taken-room}
-use Rattle.hull.proofs.BuildLaws.{front-count, front-asked, front-builds}
+use Rattle.hull.proofs.RaiseLaws.{taken_room}
+use Rattle.hull.proofs.BuildLaws.{front_count, front_asked, front_builds}
 use Rattle.hull.proofs.rooms.build_in.Statement.{statement}
 use Rattle.hull.proofs.rooms.build_in.Tie as tie
 
@@ -12,16 +12,16 @@ slice-reshare-prefix-write-hull : tie.Need-slice-reshare-prefix-write-hull
 slice-reshare-prefix-write-hull c =
     let q = c.before.before.before.before.before.before.raise in
     let h = c.before.before.before.before.before.before.before.before.before.before.before.before.before.requires in
-    omega (arith, taken-room h.0 h.1 q.ensures (omega arith), q.auto.0)
+    omega (arith, taken_room h.0 h.1 q.ensures (omega arith), q.auto.0)
 
 slice-aggregate-write-hull : tie.Need-slice-aggregate-write-hull
-slice-aggregate-write-hull c = front-count c.before.before.before.before.before.before.before.before.before.before.before.before.before.before.requires.0 c.before.before.before.before.before.before.before.raise.ensures
+slice-aggregate-write-hull c = front_count c.before.before.before.before.before.before.before.before.before.before.before.before.before.before.requires.0 c.before.before.before.before.before.before.before.raise.ensures
 
 write-hull-requires : tie.Need-write-hull-requires
 write-hull-requires c κs =
     let q = c.before.before.before.before.before.before.before.before.raise in
     let h = c.before.before.before.before.before.before.before.before.before.before.before.before.before.before.before.requires in
-    front-asked h.0 q.ensures (omega (arith, taken-room h.0 h.1 q.ensures (omega arith), q.auto.1.0, h.1.planes-long))
+    front_asked h.0 q.ensures (omega (arith, taken_room h.0 h.1 q.ensures (omega arith), q.auto.1.0, h.1.planes_long))
 
 same_length : tie.Need-same-length
 same_length c = search rules
@@ -39,7 +39,7 @@ same-length-5 : tie.Need-same-length-5
 same-length-5 c = search rules
 
 returns : tie.Need-returns
-returns c = front-builds c.before.before.before.before.before.before.before.before.before.before.before.before.before.before.before.before.before.before.requires.0 c.before.before.before.before.before.before.before.before.before.before.before.raise.ensures c.before.before.write-hull.ensures
+returns c = front_builds c.before.before.before.before.before.before.before.before.before.before.before.before.before.before.before.before.before.before.requires.0 c.before.before.before.before.before.before.before.before.before.before.before.raise.ensures c.before.before.write-hull.ensures
 
 pub build-in-spec : {M : Type 1} → statement M
 build-in-spec =

@@ -2,8 +2,8 @@ use borrow.Author.Rules.{rules}
 use mathlib.Core.Path.{refl}
 use native.Mathlib.Omega.{arith}
 use lib.Dec.{lit≤}
-use Rattle.rules.proofs.Theorems.{accepted-few}
-use Rattle.hull.proofs.BuildLaws.{marks-for, fresh-ones}
+use Rattle.rules.proofs.Theorems.{accepted_few}
+use Rattle.hull.proofs.BuildLaws.{marks_for, fresh_ones}
 use Rattle.hull.proofs.rooms.build_many.Statement.{statement}
 use Rattle.hull.proofs.rooms.build_many.Tie as tie
 
@@ -22,8 +22,8 @@ slice-aggregate-build-in-4 c = search rules
 build-in-requires : tie.Need-build-in-requires
 build-in-requires c κs =
     let h = c.before.before.before.before.before.before.requires in
-    let few = accepted-few h.sound in
-    (h, record { room = omega (arith, few); planes-long = refl; seen-long = refl; mark-table = marks-for h.sound few (lit≤ tt) }, fresh-ones _ tt)
+    let few = accepted_few h.sound in
+    (h, record { room = omega (arith, few); planes_long = refl; seen_long = refl; mark_table = marks_for h.sound few (lit≤ tt) }, fresh_ones _ tt)
 
 same_length : tie.Need-same-length
 same_length c = search rules

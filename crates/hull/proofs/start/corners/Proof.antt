@@ -6,7 +6,7 @@ use Rattle.touches.specs.Touches.{touch}
 use Rattle.volume.specs.Volume.{Vol}
 use Rattle.points.proofs.NumberLaws.{back}
 use Rattle.hull.specs.Start.{start_of}
-use Rattle.hull.proofs.StartLaws.{corners-kept, corners-turned}
+use Rattle.hull.proofs.StartLaws.{corners_kept, corners_turned}
 use Rattle.hull.proofs.start.corners.Statement.{statement}
 use Rattle.hull.proofs.start.corners.Tie as tie
 
@@ -40,12 +40,12 @@ compared c =
 returns : tie.Need-returns
 returns c =
     let a = c.before.before.before.before.before.before.args in
-    corners-kept (touch a.coords.now) (start_of a.s) (compared c.before) c.if1.true
+    corners_kept (touch a.coords.now) (start_of a.s) (compared c.before) c.if1.true
 
 returns-2 : tie.Need-returns-2
 returns-2 c =
     let a = c.before.before.before.before.before.before.args in
-    corners-turned (touch a.coords.now) (start_of a.s) (compared c.before) c.if1.false
+    corners_turned (touch a.coords.now) (start_of a.s) (compared c.before) c.if1.false
 
 pub corners-spec : {M : Type 1} → statement M
 corners-spec =

@@ -4,9 +4,9 @@ use mathlib.Core.Path.{◌≡◌, sym, ◌∙◌, ap}
 use Prim.Native.Nat.{◌≤◌, ◌-◌}
 use native.Mathlib.Omega.{arith}
 use Rattle.laws.specs.Lists.{first, upward}
-use Rattle.laws.proofs.Turns.{upward-all, first-here, first_past, first-end}
+use Rattle.laws.proofs.Turns.{upward_all, first_here, first_past, first_end}
 use Rattle.touches.specs.Touches.{touch}
-use Rattle.hull.specs.Start.{suits, foundOf}
+use Rattle.hull.specs.Start.{suits, found_of}
 use Rattle.hull.proofs.start.first_suited.Statement.{statement}
 use Rattle.hull.proofs.start.first_suited.Tie as tie
 
@@ -17,7 +17,7 @@ abbrev decreases-loop : tie.decreases-loop
 decreases-loop coords n what k₀ k = n - k
 
 loop-holds : tie.Need-loop-init invariant-loop decreases-loop
-loop-holds c = (search rules, ap (first (suits (touch c.args.coords.now) c.args.what)) (upward-all c.args.n))
+loop-holds c = (search rules, ap (first (suits (touch c.args.coords.now) c.args.what)) (upward_all c.args.n))
 
 cast-t7 : tie.Need-overflow-cast-t7 invariant-loop decreases-loop
 cast-t7 c = search rules
@@ -32,7 +32,7 @@ returns : tie.Need-returns invariant-loop decreases-loop
 returns c =
     let l = c.before.before.before.loop in
     let a = c.before.before.before.before.args in
-    sym (ap foundOf (l.invariant.1 ∙ first-here l.k a.n (suits (touch a.coords.now) a.what) (search rules) (sym c.before.is-suited.ensures ∙ c.if1.true)))
+    sym (ap found_of (l.invariant.1 ∙ first_here l.k a.n (suits (touch a.coords.now) a.what) (search rules) (sym c.before.is-suited.ensures ∙ c.if1.true)))
 
 add-k : tie.Need-overflow-add-k invariant-loop decreases-loop
 add-k c = search rules
@@ -50,7 +50,7 @@ returns-2 : tie.Need-returns-2 invariant-loop decreases-loop
 returns-2 c =
     let l = c.before.loop in
     let a = c.before.before.args in
-    sym (ap foundOf (l.invariant.1 ∙ first-end l.k a.n (suits (touch a.coords.now) a.what) (search rules)))
+    sym (ap found_of (l.invariant.1 ∙ first_end l.k a.n (suits (touch a.coords.now) a.what) (search rules)))
 
 pub first-suited-spec : {M : Type 1} → statement M
 first-suited-spec =

@@ -5,8 +5,8 @@ use mathlib.Core.List.{List}
 use Prim.Native.Nat.{ℕ}
 use lib.IntN.{ℤ}
 use Rattle.touches.specs.Touches.{touch}
-use Rattle.volume.specs.Volume.{Vol, inLine, is_zero}
-use Rattle.rules.specs.Start.{samePlace}
+use Rattle.volume.specs.Volume.{Vol, in_line, is_zero}
+use Rattle.rules.specs.Start.{same_place}
 use Rattle.points.proofs.NumberLaws.{zero_test}
 use Rattle.hull.specs.Start.{suits}
 use Rattle.hull.specs.declared.start.Sought.{Sought}
@@ -61,7 +61,7 @@ returns c =
     let a = c.before.before.before.before.before.args in
     let p = c.before.before.before.before.touch.ensures.is in
     let t = c.before.before.before.touch2.ensures.is in
-    ap not (c.same_place.ensures ∙ ap₂ samePlace p t) ∙ sym (by a.coords.now a.k.0 c.before.enum_told.given.1)
+    ap not (c.same_place.ensures ∙ ap₂ same_place p t) ∙ sym (by a.coords.now a.k.0 c.before.enum_told.given.1)
 
 returns-2 : tie.Need-returns-2
 returns-2 c =
@@ -69,7 +69,7 @@ returns-2 c =
     let p = c.before.before.before.before.before.before.touch.ensures.is in
     let t = c.before.before.before.before.before.touch2.ensures.is in
     let q = c.before.touch3.ensures.is in
-    ap not (c.in-line.ensures ∙ (λ i. inLine (p i) (q i) (t i))) ∙ sym (by a.coords.now a.k.0 c.before.before.before.what.given.1)
+    ap not (c.in_line.ensures ∙ (λ i. in_line (p i) (q i) (t i))) ∙ sym (by a.coords.now a.k.0 c.before.before.before.what.given.1)
 
 returns-3 : tie.Need-returns-3
 returns-3 c =

@@ -5,12 +5,12 @@ use mathlib.Core.Bool.{Bool, cond}
 use Prim.Native.Nat.{ℕ}
 use lib.Dec.{ltb}
 use Rattle.rules.specs.Start.{Start as Four}
-use Rattle.hull.specs.Start.{past, nextOther, start_of}
+use Rattle.hull.specs.Start.{past, next_other, start_of}
 use Rattle.hull.proofs.start.next_other.Statement.{statement}
 use Rattle.hull.proofs.start.next_other.Tie as tie
 
 -- by what the comparison with S told
-by : (s : Four) (k : ℕ) {b : Bool} → ltb s.S k ≡ b → cond b k (past (past (past k s.Q) s.R) s.S) ≡ nextOther s k
+by : (s : Four) (k : ℕ) {b : Bool} → ltb s.S k ≡ b → cond b k (past (past (past k s.Q) s.R) s.S) ≡ next_other s k
 by s k e = ap (λ (b : Bool). cond b k (past (past (past k s.Q) s.R) s.S)) (sym e)
 
 cast-if1 : tie.Need-overflow-cast-if1

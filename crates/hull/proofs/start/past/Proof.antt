@@ -1,6 +1,6 @@
 use borrow.Author.Rules.{rules}
 use mathlib.Core.Path.{sym}
-use Rattle.hull.proofs.OtherLaws.{past_same, past-other}
+use Rattle.hull.proofs.OtherLaws.{past_same, past_other}
 use Rattle.hull.proofs.start.past.Statement.{statement}
 use Rattle.hull.proofs.start.past.Tie as tie
 
@@ -14,7 +14,7 @@ returns : tie.Need-returns
 returns c = sym (past_same c.if1.true)
 
 returns-2 : tie.Need-returns-2
-returns-2 c = sym (past-other c.if1.false)
+returns-2 c = sym (past_other c.if1.false)
 
 pub past-spec : {M : Type 1} → statement M
 past-spec = tie.close (tie.spec cast-if1 add-result returns returns-2)

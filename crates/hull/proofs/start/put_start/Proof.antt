@@ -6,13 +6,13 @@ use Prim.Native.Nat.{◌≤◌, ◌-◌}
 use lib.ListN.{length, take, length-set}
 use Rattle.laws.specs.Lists.{Laid}
 use Rattle.laws.proofs.Tables.{laid_none, laid_next}
-use Rattle.rules.specs.Start.{startFaces}
-use Rattle.hull.proofs.StartLaws.{start-laid}
+use Rattle.rules.specs.Start.{start_faces}
+use Rattle.hull.proofs.StartLaws.{start_laid}
 use Rattle.hull.proofs.start.put_start.Statement.{statement}
 use Rattle.hull.proofs.start.put_start.Tie as tie
 
 abbrev invariant-loop : tie.invariant-loop
-invariant-loop table₀ coords abcd i₀ table i = (i ≤ 4) × (length table ≡ length table₀) × Laid 0 (take i (startFaces abcd)) table₀ i table
+invariant-loop table₀ coords abcd i₀ table i = (i ≤ 4) × (length table ≡ length table₀) × Laid 0 (take i (start_faces abcd)) table₀ i table
 
 abbrev decreases-loop : tie.decreases-loop
 decreases-loop table₀ coords abcd i₀ table i = 4 - i
@@ -42,13 +42,13 @@ loop-again : tie.Need-loop-preserved invariant-loop decreases-loop
 loop-again c =
     let l = c.before.before.loop in
     let f = c.start-face in
-    (search rules, length-set l.table l.i f.result ∙ l.invariant.1, laid_next (startFaces c.before.before.before.corners.result) [] f.ensures (search rules) (search rules) l.invariant.2)
+    (search rules, length-set l.table l.i f.result ∙ l.invariant.1, laid_next (start_faces c.before.before.before.corners.result) [] f.ensures (search rules) (search rules) l.invariant.2)
 
 same_length : tie.Need-same-length invariant-loop decreases-loop
 same_length c = search rules
 
 returns : tie.Need-returns invariant-loop decreases-loop
-returns c = start-laid c.before.before.corners.ensures (search rules) c.before.loop.invariant.2
+returns c = start_laid c.before.before.corners.ensures (search rules) c.before.loop.invariant.2
 
 pub put-start-spec : {M : Type 1} → statement M
 put-start-spec =

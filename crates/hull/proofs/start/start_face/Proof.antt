@@ -7,13 +7,13 @@ use lib.ListN.{get_or}
 use mir.Syntax.{w64}
 use mir.Val.{Fits}
 use mir.Facts.{Fits-lit}
-use Rattle.rules.specs.Start.{startTable, startFaces}
+use Rattle.rules.specs.Start.{start_table, start_faces}
 use Rattle.hull.proofs.StartLaws.{below4}
 use Rattle.hull.proofs.start.start_face.Statement.{statement}
 use Rattle.hull.proofs.start.start_face.Tie as tie
 
 abbrev at : ℕ → ℕ → ℕ
-at i j = get_or (get_or startTable i []) j 0
+at i j = get_or (get_or start_table i []) j 0
 
 -- each number of the table is a place of A, B, C, D
 place : (j : ℕ) → at 0 j < 4 → at 1 j < 4 → at 2 j < 4 → at 3 j < 4 → (i : ℕ) → i < 4 → at i j < 4
@@ -55,7 +55,7 @@ array-read-t33 c = place 2 (lit< tt) (lit< tt) (lit< tt) (lit< tt) c.before.args
 returns : tie.Need-returns
 returns c =
     let k = c.before.args.t1 in
-    below4 (λ i. ◌≡◌ {A = List ℕ} (get_or k (at i 0) 0 ∷ get_or k (at i 1) 0 ∷ get_or k (at i 2) 0 ∷ []) (get_or (startFaces k) i [])) refl refl refl refl c.before.args.i c.before.requires
+    below4 (λ i. ◌≡◌ {A = List ℕ} (get_or k (at i 0) 0 ∷ get_or k (at i 1) 0 ∷ get_or k (at i 2) 0 ∷ []) (get_or (start_faces k) i [])) refl refl refl refl c.before.args.i c.before.requires
 
 pub start-face-spec : {M : Type 1} → statement M
 start-face-spec =

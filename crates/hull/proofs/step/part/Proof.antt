@@ -6,7 +6,7 @@ use mathlib.Core.List.{[]}
 use Prim.Native.Nat.{◌-◌}
 use native.Mathlib.Omega.{arith}
 use lib.ListN.{length, get_or}
-use Rattle.hull.proofs.PartLaws.{planes-near, Parting, parting-near, planes-place, kept-room, front-room, parting-more, parting-all, parting-first, parting-nothing}
+use Rattle.hull.proofs.PartLaws.{planes_near, Parting, parting_near, planes_place, kept_room, front_room, parting_more, parting_all, parting_first, parting_nothing}
 use Rattle.hull.proofs.step.part.Statement.{statement}
 use Rattle.hull.proofs.step.part.Tie as tie
 
@@ -22,7 +22,7 @@ touch-requires c κs = search rules
 first-in-front-requires : tie.Need-first-in-front-requires invariant-loop decreases-loop
 first-in-front-requires c κs =
     let s = c.before.before in
-    (s.requires.3, planes-near s.requires.1 s.requires.0 s.requires.2, c.before.touch.ensures.small)
+    (s.requires.3, planes_near s.requires.1 s.requires.0 s.requires.2, c.before.touch.ensures.small)
 
 same_length : tie.Need-same-length invariant-loop decreases-loop
 same_length c = search rules
@@ -30,7 +30,7 @@ same_length c = search rules
 returns : tie.Need-returns invariant-loop decreases-loop
 returns c =
     let s = c.before.before.before.before in
-    (parting-nothing s.requires.2 s.requires.3 s.requires.1 c.before.first-in-front.ensures c.if1.true c.before.before.before.touch.ensures.is s.args.seen.now s.requires.4, s.requires.1)
+    (parting_nothing s.requires.2 s.requires.3 s.requires.1 c.before.first-in-front.ensures c.if1.true c.before.before.before.touch.ensures.is s.args.seen.now s.requires.4, s.requires.1)
 
 mul-put : tie.Need-overflow-mul-put invariant-loop decreases-loop
 mul-put c = search rules
@@ -49,7 +49,7 @@ loop-holds c =
     let s = c.before.before.before.before.before.before.before.before in
     let f = c.before.before.before.before.before.first-in-front in
     let q = c.before.put in
-    (refl, refl, parting-first s.requires.2 s.requires.3 s.requires.1 f.ensures (omega (arith, c.before.before.before.before.if1.false, f.ensures.within)) s.requires.4 q.ensures q.auto.0)
+    (refl, refl, parting_first s.requires.2 s.requires.3 s.requires.1 f.ensures (omega (arith, c.before.before.before.before.if1.false, f.ensures.within)) s.requires.4 q.ensures q.auto.0)
 
 mul-f : tie.Need-overflow-mul-f invariant-loop decreases-loop
 mul-f c = search rules
@@ -67,22 +67,22 @@ in-front-requires : tie.Need-in-front-requires invariant-loop decreases-loop
 in-front-requires c κs =
     let l = c.before.before.before.loop in
     let s = c.before.before.before.before.before.before.before.before.before.before.before.before in
-    (parting-near l.invariant.2 (search rules) s.requires.2 s.requires.0, c.before.before.before.before.before.before.before.before.before.before.before.touch.ensures.small)
+    (parting_near l.invariant.2 (search rules) s.requires.2 s.requires.0, c.before.before.before.before.before.before.before.before.before.before.before.touch.ensures.small)
 
 put-plane-requires : tie.Need-put-plane-requires invariant-loop decreases-loop
 put-plane-requires c κs =
     let l = c.before.before.before.before.before.loop in
-    planes-place l.invariant.2 (search rules) c.before.before.before.before.before.before.before.before.before.before.before.before.before.before.requires.2
+    planes_place l.invariant.2 (search rules) c.before.before.before.before.before.before.before.before.before.before.before.before.before.before.requires.2
 
 put-requires-2 : tie.Need-put-requires-2 invariant-loop decreases-loop
 put-requires-2 c κs =
     let l = c.before.before.before.before.before.before.before.before.loop in
-    kept-room l.invariant.2 (search rules) c.before.before.before.before.before.before.before.before.before.before.before.before.before.before.before.before.before.requires.2 (not c.before.before.before.before.in-front.result) (get_or l.table l.i [])
+    kept_room l.invariant.2 (search rules) c.before.before.before.before.before.before.before.before.before.before.before.before.before.before.before.before.before.requires.2 (not c.before.before.before.before.in_front.result) (get_or l.table l.i [])
 
 put-requires-3 : tie.Need-put-requires-3 invariant-loop decreases-loop
 put-requires-3 c κs =
     let l = c.before.before.before.before.before.before.before.before.before.before.before.loop in
-    front-room l.invariant.2 (search rules) c.before.before.before.before.before.before.before.before.before.before.before.before.before.before.before.before.before.before.before.before.requires.2 c.before.before.before.before.before.before.before.in-front.result (get_or l.table l.i [])
+    front_room l.invariant.2 (search rules) c.before.before.before.before.before.before.before.before.before.before.before.before.before.before.before.before.before.before.before.before.requires.2 c.before.before.before.before.before.before.before.in_front.result (get_or l.table l.i [])
 
 add-i-2 : tie.Need-overflow-add-i-2 invariant-loop decreases-loop
 add-i-2 c = search rules
@@ -99,7 +99,7 @@ loop-again c =
     let two = c.before.put3 in (
       w.auto.0 ∙ l.invariant.0,
       two.auto.0 ∙ l.invariant.1,
-      parting-more l.invariant.2 (omega (arith, c.before.before.before.before.before.before.before.before.before.before.before.before.loop-test.true)) s.requires.2 c.before.before.before.before.before.before.before.before.before.in-front.ensures w.ensures w.auto.0 one.ensures one.auto.0 two.ensures two.auto.0,
+      parting_more l.invariant.2 (omega (arith, c.before.before.before.before.before.before.before.before.before.before.before.before.loop-test.true)) s.requires.2 c.before.before.before.before.before.before.before.before.before.in_front.ensures w.ensures w.auto.0 one.ensures one.auto.0 two.ensures two.auto.0,
     )
 
 same-length-2 : tie.Need-same-length-2 invariant-loop decreases-loop
@@ -114,7 +114,7 @@ same-length-4 c = c.before.loop.invariant.1 ∙ c.before.before.before.put.auto.
 returns-2 : tie.Need-returns-2 invariant-loop decreases-loop
 returns-2 c =
     let l = c.before.loop in
-    (parting-all l.invariant.2 c.before.before.before.before.before.before.before.before.before.touch.ensures.is (search rules), l.invariant.2.planed)
+    (parting_all l.invariant.2 c.before.before.before.before.before.before.before.before.before.touch.ensures.is (search rules), l.invariant.2.planed)
 
 pub part-spec : {M : Type 1} → statement M
 part-spec =

@@ -2,7 +2,7 @@
 use borrow.Author.Rules.{rules}
 use mathlib.Core.Path.{sym, ◌∙◌}
 use Prim.Native.Nat.{◌≤◌, ◌-◌}
-use Rattle.hull.proofs.WholeLaws.{Behind, behind-none, behind_more, front-here, front-nowhere}
+use Rattle.hull.proofs.WholeLaws.{Behind, behind_none, behind_more, front_here, front_nowhere}
 use Rattle.hull.proofs.whole.first_in_front.Statement.{statement}
 use Rattle.hull.proofs.whole.first_in_front.Tie as tie
 
@@ -13,7 +13,7 @@ abbrev decreases-loop : tie.decreases-loop
 decreases-loop planes n q i₀ i = n - i
 
 loop-holds : tie.Need-loop-init invariant-loop decreases-loop
-loop-holds c = (search rules, behind-none _ _)
+loop-holds c = (search rules, behind_none _ _)
 
 mul-in-front : tie.Need-overflow-mul-in-front invariant-loop decreases-loop
 mul-in-front c = search rules
@@ -28,7 +28,7 @@ in-front-requires c κs =
     (h.1 l.i (search rules), h.2)
 
 returns : tie.Need-returns invariant-loop decreases-loop
-returns c = front-here c.before.before.before.before.loop.invariant.1 (search rules) (sym c.before.in-front.ensures ∙ c.if1.true)
+returns c = front_here c.before.before.before.before.loop.invariant.1 (search rules) (sym c.before.in_front.ensures ∙ c.if1.true)
 
 add-i : tie.Need-overflow-add-i invariant-loop decreases-loop
 add-i c = search rules
@@ -37,10 +37,10 @@ loop-less : tie.Need-loop-smaller invariant-loop decreases-loop
 loop-less c = search rules
 
 loop-again : tie.Need-loop-preserved invariant-loop decreases-loop
-loop-again c = (search rules, behind_more c.before.before.before.before.loop.invariant.1 (sym c.before.in-front.ensures ∙ c.if1.false))
+loop-again c = (search rules, behind_more c.before.before.before.before.loop.invariant.1 (sym c.before.in_front.ensures ∙ c.if1.false))
 
 returns-2 : tie.Need-returns-2 invariant-loop decreases-loop
-returns-2 c = front-nowhere c.before.loop.invariant.1 (search rules)
+returns-2 c = front_nowhere c.before.loop.invariant.1 (search rules)
 
 pub first-in-front-spec : {M : Type 1} → statement M
 first-in-front-spec =

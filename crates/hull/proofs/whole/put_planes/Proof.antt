@@ -4,9 +4,9 @@ use Prim.Native.Nat.{◌≤◌, ◌-◌}
 use lib.ListN.{length, length-set}
 use Rattle.touches.specs.Touches.{touch}
 use Rattle.rules.specs.Demands.{FaceOf}
-use Rattle.points.specs.Whole.{planeOn}
+use Rattle.points.specs.Whole.{plane_on}
 use Rattle.hull.specs.Whole.{Planed}
-use Rattle.hull.proofs.WholeLaws.{planed-more}
+use Rattle.hull.proofs.WholeLaws.{planed_more}
 use Rattle.hull.proofs.whole.put_planes.Statement.{statement}
 use Rattle.hull.proofs.whole.put_planes.Tie as tie
 
@@ -50,8 +50,8 @@ loop-again : tie.Need-loop-preserved invariant-loop decreases-loop
 loop-again c =
     let l = c.before.before.before.before.loop in
     let cs = c.before.before.before.before.before.args.coords.now in
-    let e = c.plane-on.ensures ∙ ap (planeOn (touch cs)) c.before.corners.ensures in
-    (search rules, search rules, length-set l.planes l.i c.plane-on.result ∙ l.invariant.2, planed-more l.invariant.3 (search rules) e)
+    let e = c.plane-on.ensures ∙ ap (plane_on (touch cs)) c.before.corners.ensures in
+    (search rules, search rules, length-set l.planes l.i c.plane-on.result ∙ l.invariant.2, planed_more l.invariant.3 (search rules) e)
 
 same_length : tie.Need-same-length invariant-loop decreases-loop
 same_length c = search rules

@@ -3,12 +3,12 @@ use mathlib.Core.Path.{◌≡◌, ap, ◌∙◌}
 use lib.IntN.{ℤ, pos, ◌-ℤ◌}
 use lib.ListN.{get_or}
 use mir.Syntax.{w64}
-use Rattle.laws.proofs.Words.{r-i64, r-sub, fits, stored, size}
+use Rattle.laws.proofs.Words.{r_i64, r_sub, fits, stored, size}
 use Rattle.touches.specs.declared.Point.{Point}
 use Rattle.volume.specs.Volume.{dot}
 use Rattle.points.specs.Whole.{slope}
 use Rattle.points.proofs.NumberLaws.{rd, passed}
-use Rattle.points.proofs.PlaneLaws.{gap-near}
+use Rattle.points.proofs.PlaneLaws.{gap_near}
 use Rattle.hull.proofs.whole.read.Statement.{statement}
 use Rattle.hull.proofs.whole.read.Tie as tie
 
@@ -27,17 +27,17 @@ array-copy-out-result-3 c = search rules
 dot-requires : tie.Need-dot-requires
 dot-requires c κs =
     let h = c.before.before.before.before.requires in
-    (record { x = size (r-i64 tt h.0.normal.x); y = size (r-i64 tt h.0.normal.y); z = size (r-i64 tt h.0.normal.z) }, gap-near h.1)
+    (record { x = size (r_i64 tt h.0.normal.x); y = size (r_i64 tt h.0.normal.y); z = size (r_i64 tt h.0.normal.z) }, gap_near h.1)
 
 sub-result : tie.Need-overflow-sub-result
-sub-result c = fits w64 (r-sub (r-i64 tt c.before.before.before.before.before.requires.0.offset) (r-i64 tt c.dot.ensures.small)) tt
+sub-result c = fits w64 (r_sub (r_i64 tt c.before.before.before.before.before.requires.0.offset) (r_i64 tt c.dot.ensures.small)) tt
 
 returns : tie.Need-returns
 returns c =
     let s = c.before.before.before.before.before in
     let h = s.requires.0 in
     let a = s.args in
-    let r = stored w64 (r-sub (r-i64 tt h.offset) (r-i64 tt c.dot.ensures.small)) tt in
+    let r = stored w64 (r_sub (r_i64 tt h.offset) (r_i64 tt c.dot.ensures.small)) tt in
     let n : record { x = rd (get_or a.t1 0 (pos 0)); y = rd (get_or a.t1 1 (pos 0)); z = rd (get_or a.t1 2 (pos 0)) } ≡ slope a.t1 = λ i. record { x = passed tt h.normal.x i; y = passed tt h.normal.y i; z = passed tt h.normal.z i } in
     record { is = r.is ∙ ap (λ (z : ℤ). get_or a.t1 3 (pos 0) -ℤ z) (c.dot.ensures.is ∙ ap (λ (u : Point). dot u a.q) n); small = size r }
 

@@ -4,7 +4,7 @@ use native.Mathlib.Nat.{mod-lt, pos_of_ne-zero}
 use native.Mathlib.Omega.{arith}
 use borrow.Fn.Kinds.{In}
 use borrow.Fn.PlainCycle.{Measures, is, falls, and}
-use Rattle.laws.proofs.Fractions.{naturals-less, naturals-more, both_out, first_out, second-out, turned-over}
+use Rattle.laws.proofs.Fractions.{naturals_less, naturals_more, both_out, first_out, second_out, turned_over}
 use Rattle.plumb.proofs.fractions.compare_unsigned.Reads as compare-unsigned
 use Rattle.plumb.proofs.fractions.compare_unsigned.Kinds as compare-unsigned-kinds
 use Rattle.plumb.proofs.fractions.+compare_unsigned.Lts-compare_unsigned as compare-unsigned-lts
@@ -47,13 +47,13 @@ compare-unsigned-returns : (t : ℕ) → compare-unsigned-lts.Need-returns (
   compare-unsigned-below t,
   compare-unsigned.Post,
 ) (compare-unsigned-at t) compare-unsigned.Post
-compare-unsigned-returns t c = let s = c.before in naturals-less s.args.a s.args.b s.args.c s.args.d s.requires.1.0 s.requires.1.1 Less Equal More c.if1.true
+compare-unsigned-returns t c = let s = c.before in naturals_less s.args.a s.args.b s.args.c s.args.d s.requires.1.0 s.requires.1.1 Less Equal More c.if1.true
 
 compare-unsigned-returns-2 : (t : ℕ) → compare-unsigned-lts.Need-returns-2 (
   compare-unsigned-below t,
   compare-unsigned.Post,
 ) (compare-unsigned-at t) compare-unsigned.Post
-compare-unsigned-returns-2 t c = let s = c.before.before in naturals-more s.args.a s.args.b s.args.c s.args.d s.requires.1.0 s.requires.1.1 Less Equal More c.if2.true
+compare-unsigned-returns-2 t c = let s = c.before.before in naturals_more s.args.a s.args.b s.args.c s.args.d s.requires.1.0 s.requires.1.1 Less Equal More c.if2.true
 
 compare-unsigned-rem-r : (t : ℕ) → compare-unsigned-lts.Need-nonzero-rem-r (
   compare-unsigned-below t,
@@ -83,7 +83,7 @@ compare-unsigned-returns-5 : (t : ℕ) → compare-unsigned-lts.Need-returns-5 (
   compare-unsigned-below t,
   compare-unsigned.Post,
 ) (compare-unsigned-at t) compare-unsigned.Post
-compare-unsigned-returns-5 t c = let s = c.before.before.before.before in second-out s.args.a s.args.b s.args.c s.args.d s.requires.1.0 s.requires.1.1 Less Equal More c.before.before.before.if1.false c.before.before.if2.false c.before.if3.false c.if5.true
+compare-unsigned-returns-5 t c = let s = c.before.before.before.before in second_out s.args.a s.args.b s.args.c s.args.d s.requires.1.0 s.requires.1.1 Less Equal More c.before.before.before.if1.false c.before.before.if2.false c.before.if3.false c.if5.true
 
 compare-unsigned-compare-unsigned-requires :
     (t : ℕ) → compare-unsigned-lts.Need-compare-unsigned-requires (
@@ -100,7 +100,7 @@ compare-unsigned-returns-6 : (t : ℕ) → compare-unsigned-lts.Need-returns-6 (
   compare-unsigned-below t,
   compare-unsigned.Post,
 ) (compare-unsigned-at t) compare-unsigned.Post
-compare-unsigned-returns-6 t c = let s = c.before.before.before.before.before in c.compare-unsigned.ensures ∙ turned-over s.args.a s.args.b s.args.c s.args.d s.requires.1.0 s.requires.1.1 Less Equal More c.before.before.before.before.if1.false c.before.before.before.if2.false
+compare-unsigned-returns-6 t c = let s = c.before.before.before.before.before in c.compare-unsigned.ensures ∙ turned_over s.args.a s.args.b s.args.c s.args.d s.requires.1.0 s.requires.1.1 Less Equal More c.before.before.before.before.if1.false c.before.before.before.if2.false
 
 pub +compare-unsigned-spec : {M : Type 1} → statement M
 +compare-unsigned-spec = close μ-compare-unsigned λ t. compare-unsigned-lts.spec (

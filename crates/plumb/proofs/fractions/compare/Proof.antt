@@ -8,18 +8,18 @@ use mir.Val.{SFits}
 use mir.ValLaws.{to_z-of_z}
 use Rattle.laws.specs.Numbers.{Within}
 use Rattle.laws.specs.Fractions.{compared, Parts}
-use Rattle.laws.proofs.Order.{<→≤, antisymm, lt-true, lt-false}
-use Rattle.laws.proofs.Words.{r-i64, bits_pos, size}
-use Rattle.laws.proofs.Fractions.{whole-less, whole-more, whole_same}
-use Rattle.volume.specs.Volume.{mostVolume, mostNormal}
+use Rattle.laws.proofs.Order.{<→≤, antisymm, lt_true, lt_false}
+use Rattle.laws.proofs.Words.{r_i64, bits_pos, size}
+use Rattle.laws.proofs.Fractions.{whole_less, whole_more, whole_same}
+use Rattle.volume.specs.Volume.{most_volume, most_normal}
 use Rattle.points.proofs.NumberLaws.{rd, passed}
 use Rattle.plumb.specs.Fractions.{Ranged}
 use Rattle.plumb.specs.declared.fractions.Order.TheVariants.{Less, Equal, More}
 use Rattle.plumb.proofs.fractions.compare.Statement.{statement}
 use Rattle.plumb.proofs.fractions.compare.Tie as tie
 
-asked : {a b : ℤ} → Ranged (record { top = a; bottom = b }) → (pos 0 <ℤ rd b) × Within mostVolume (rd a) × Within mostNormal (rd b)
-asked h = (rw (passed tt h.fits.bottom) h.proper, size (r-i64 tt h.fits.top), size (r-i64 tt h.fits.bottom))
+asked : {a b : ℤ} → Ranged (record { top = a; bottom = b }) → (pos 0 <ℤ rd b) × Within most_volume (rd a) × Within most_normal (rd b)
+asked h = (rw (passed tt h.fits.bottom) h.proper, size (r_i64 tt h.fits.top), size (r_i64 tt h.fits.bottom))
 
 -- the parts of a fraction, as they are read back
 parts : {a b w l : ℤ} → Ranged (record { top = a; bottom = b }) → Parts (rd a) (rd b) w l → SFits w64 w → SFits w64 l → Parts a b (rd w) (rd l)
@@ -49,12 +49,12 @@ split-requires-2 c κs = asked c.before.before.before.before.before.requires.1
 returns : tie.Need-returns
 returns c =
     let q = c.before in
-    sym (whole-less (first q.before.before) (second q) Less Equal More (lt-true c.if1.true))
+    sym (whole_less (first q.before.before) (second q) Less Equal More (lt_true c.if1.true))
 
 returns-2 : tie.Need-returns-2
 returns-2 c =
     let q = c.before.before.before.before.before.before in
-    sym (whole-more (first q.before.before) (second q) Less Equal More (lt-true c.if2.true))
+    sym (whole_more (first q.before.before) (second q) Less Equal More (lt_true c.if2.true))
 
 natural-requires : tie.Need-natural-requires
 natural-requires c κs = (first c.before.before.before.before.before.before.before.before.before).over
@@ -82,7 +82,7 @@ returns-3 c =
     let d = c.before.before.before.natural3.ensures in
     let e = c.before.natural4.ensures ∙ passed tt h.1.fits.bottom in
     c.compare-unsigned.ensures ∙ (λ i. compared (a i) (b i) (d i) (e i) Less Equal More)
-    ∙ sym (whole_same (first q.before.before) (second q) Less Equal More (antisymm (lt-false c.before.before.before.before.before.before.before.before.before.if2.false) (lt-false c.before.before.before.before.before.before.before.before.before.before.before.before.before.before.if1.false)))
+    ∙ sym (whole_same (first q.before.before) (second q) Less Equal More (antisymm (lt_false c.before.before.before.before.before.before.before.before.before.if2.false) (lt_false c.before.before.before.before.before.before.before.before.before.before.before.before.before.before.if1.false)))
 
 pub compare-spec : {M : Type 1} → statement M
 compare-spec =

@@ -7,15 +7,15 @@ use lib.Ieee.{binary64, in_float}
 use mir.Syntax.{w64}
 use mir.Val.{to_z, of_z}
 use Rattle.laws.specs.Numbers.{Within}
-use Rattle.laws.proofs.Words.{r-i64}
-use Rattle.laws.proofs.Doubles.{in-float}
+use Rattle.laws.proofs.Words.{r_i64}
+use Rattle.laws.proofs.Doubles.{in_float_lem}
 use Rattle.touches.specs.Limits.{reach}
 use Rattle.points.proofs.doubles.in_doubles.Statement.{statement}
 use Rattle.points.proofs.doubles.in_doubles.Tie as tie
 
 -- a coordinate in range is exactly a double
 held : {z : ℤ} → Within reach z → T (in_float binary64 (to_z w64 (of_z w64 z)))
-held {z} h = subst (λ (y : ℤ). T (in_float binary64 y)) (sym (r-i64 tt h).is) (in-float binary64 z (le_trans h.within (lit≤ tt)))
+held {z} h = subst (λ (y : ℤ). T (in_float binary64 y)) (sym (r_i64 tt h).is) (in_float_lem binary64 z (le_trans h.within (lit≤ tt)))
 
 int-to-float-t2 : tie.Need-int-to-float-t2
 int-to-float-t2 c = held c.before.before.requires.x

@@ -2,13 +2,13 @@ use borrow.Author.Rules.{rules}
 use mathlib.Core.Path.{◌≡◌, ◌∙◌}
 use lib.IntN.{ℤ}
 use Rattle.laws.specs.Numbers.{Within}
-use Rattle.volume.specs.Volume.{mostGap, mostNormal, det2}
+use Rattle.volume.specs.Volume.{most_gap, most_normal, det2}
 use Rattle.points.specs.Sizes.{Number}
-use Rattle.points.proofs.NumberLaws.{rd, back, back-small, passed}
+use Rattle.points.proofs.NumberLaws.{rd, back, back_small, passed}
 use Rattle.points.proofs.vectors.cross.Statement.{statement}
 use Rattle.points.proofs.vectors.cross.Tie as tie
 
-part : {a b c d r : ℤ} → Within mostGap a → Within mostGap b → Within mostGap c → Within mostGap d → Number mostNormal (det2 (rd a) (rd b) (rd c) (rd d)) r → rd r ≡ det2 a b c d
+part : {a b c d r : ℤ} → Within most_gap a → Within most_gap b → Within most_gap c → Within most_gap d → Number most_normal (det2 (rd a) (rd b) (rd c) (rd d)) r → rd r ≡ det2 a b c d
 part a b c d n = back tt n ∙ (λ i. det2 (passed tt a i) (passed tt b i) (passed tt c i) (passed tt d i))
 
 det2-requires : tie.Need-det2-requires
@@ -29,7 +29,7 @@ returns c =
     let ex = part h.0.y h.0.z h.1.y h.1.z x in
     let ey = part h.0.z h.0.x h.1.z h.1.x y in
     let ez = part h.0.x h.0.y h.1.x h.1.y z in
-    record { is = λ i. record { x = ex i; y = ey i; z = ez i }; small = record { x = back-small tt x; y = back-small tt y; z = back-small tt z } }
+    record { is = λ i. record { x = ex i; y = ey i; z = ez i }; small = record { x = back_small tt x; y = back_small tt y; z = back_small tt z } }
 
 pub cross-spec : {M : Type 1} → statement M
 cross-spec = tie.close (tie.spec det2-requires det2-requires-2 det2-requires-3 returns)

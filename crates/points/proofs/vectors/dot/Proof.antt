@@ -2,23 +2,23 @@ use lib.IntN.{ℤ, ◌*ℤ◌, ◌+ℤ◌}
 use Prim.Native.Nat.{◌*◌}
 use mir.Syntax.{w64}
 use Rattle.laws.specs.Numbers.{Within}
-use Rattle.laws.proofs.Words.{Reads, r-i64, r-mul, r-add, fits, stored, size}
+use Rattle.laws.proofs.Words.{Reads, r_i64, r_mul, r_add, fits, stored, size}
 use Rattle.touches.specs.declared.Point.{Point}
 use Rattle.touches.specs.Touches.{Small}
-use Rattle.volume.specs.Volume.{mostGap, mostNormal, mostVolume}
+use Rattle.volume.specs.Volume.{most_gap, most_normal, most_volume}
 use Rattle.points.proofs.NumberLaws.{rd}
 use Rattle.points.proofs.vectors.dot.Statement.{statement}
 use Rattle.points.proofs.vectors.dot.Tie as tie
 
-part : {p q : ℤ} → Within mostNormal p → Within mostGap q → Reads (mostNormal * mostGap) (rd p *ℤ rd q) (p *ℤ q)
-part p q = r-mul (r-i64 tt p) (r-i64 tt q)
+part : {p q : ℤ} → Within most_normal p → Within most_gap q → Reads (most_normal * most_gap) (rd p *ℤ rd q) (p *ℤ q)
+part p q = r_mul (r_i64 tt p) (r_i64 tt q)
 
-module _ {u v : Point} (h : Small mostNormal u) (k : Small mostGap v) where
-  two : Reads (2 * mostNormal * mostGap) (rd (rd u.x *ℤ rd v.x) +ℤ rd (rd u.y *ℤ rd v.y)) (u.x *ℤ v.x +ℤ u.y *ℤ v.y)
-  two = r-add (stored w64 (part h.x k.x) tt) (stored w64 (part h.y k.y) tt)
+module _ {u v : Point} (h : Small most_normal u) (k : Small most_gap v) where
+  two : Reads (2 * most_normal * most_gap) (rd (rd u.x *ℤ rd v.x) +ℤ rd (rd u.y *ℤ rd v.y)) (u.x *ℤ v.x +ℤ u.y *ℤ v.y)
+  two = r_add (stored w64 (part h.x k.x) tt) (stored w64 (part h.y k.y) tt)
 
-  three : Reads mostVolume (rd (rd (rd u.x *ℤ rd v.x) +ℤ rd (rd u.y *ℤ rd v.y)) +ℤ rd (rd u.z *ℤ rd v.z)) (u.x *ℤ v.x +ℤ u.y *ℤ v.y +ℤ u.z *ℤ v.z)
-  three = r-add (stored w64 two tt) (stored w64 (part h.z k.z) tt)
+  three : Reads most_volume (rd (rd (rd u.x *ℤ rd v.x) +ℤ rd (rd u.y *ℤ rd v.y)) +ℤ rd (rd u.z *ℤ rd v.z)) (u.x *ℤ v.x +ℤ u.y *ℤ v.y +ℤ u.z *ℤ v.z)
+  three = r_add (stored w64 two tt) (stored w64 (part h.z k.z) tt)
 
 mul-result : tie.Need-overflow-mul-result
 mul-result c = let h = c.before.before.before.before.requires in fits w64 (part h.0.x h.1.x) tt

@@ -2,14 +2,14 @@ use lib.IntN.{ℤ, ◌-ℤ◌}
 use mir.Syntax.{w64}
 use mir.Val.{to_z, of_z}
 use Rattle.laws.specs.Numbers.{Within}
-use Rattle.laws.proofs.Words.{Reads, r-i64, r-sub, fits, stored, size}
+use Rattle.laws.proofs.Words.{Reads, r_i64, r_sub, fits, stored, size}
 use Rattle.touches.specs.Limits.{reach}
-use Rattle.volume.specs.Volume.{mostGap}
+use Rattle.volume.specs.Volume.{most_gap}
 use Rattle.points.proofs.vectors.minus.Statement.{statement}
 use Rattle.points.proofs.vectors.minus.Tie as tie
 
-gap : {p a : ℤ} → Within reach p → Within reach a → Reads mostGap (to_z w64 (of_z w64 p) -ℤ to_z w64 (of_z w64 a)) (p -ℤ a)
-gap p a = r-sub (r-i64 tt p) (r-i64 tt a)
+gap : {p a : ℤ} → Within reach p → Within reach a → Reads most_gap (to_z w64 (of_z w64 p) -ℤ to_z w64 (of_z w64 a)) (p -ℤ a)
+gap p a = r_sub (r_i64 tt p) (r_i64 tt a)
 
 sub-t3 : tie.Need-overflow-sub-t3
 sub-t3 c = let h = c.before.before.before.before.requires in fits w64 (gap h.0.x h.1.x) tt

@@ -2,7 +2,7 @@ use borrow.Author.Rules.{rules}
 use mathlib.Core.Path.{◌∙◌}
 use native.Mathlib.Omega.{arith}
 use Rattle.touches.proofs.PlainLaws.{plain_at}
-use Rattle.points.specs.Whole.{wholePlane}
+use Rattle.points.specs.Whole.{whole_plane}
 use Rattle.points.proofs.whole.plane_on.Statement.{statement}
 use Rattle.points.proofs.whole.plane_on.Tie as tie
 
@@ -32,7 +32,7 @@ returns c =
     let a = c.before.before.before.before.before.touch.ensures.is in
     let b = c.before.before.before.touch2.ensures.is in
     let d = c.before.touch3.ensures.is in
-    simp plain_at (c.through.ensures ∙ (λ i. wholePlane (a i) (b i) (d i)))
+    simp plain_at (c.through.ensures ∙ (λ i. whole_plane (a i) (b i) (d i)))
 
 pub plane-on-spec : {M : Type 1} → statement M
 plane-on-spec =

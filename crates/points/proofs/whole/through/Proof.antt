@@ -1,7 +1,7 @@
 use borrow.Author.Rules.{rules}
 use mathlib.Core.Path.{ap, ◌∙◌}
 use mathlib.Core.List.{[], ◌∷◌}
-use Rattle.laws.proofs.Words.{r-i64}
+use Rattle.laws.proofs.Words.{r_i64}
 use Rattle.touches.specs.declared.Point.{Point}
 use Rattle.volume.specs.Volume.{dot, offset}
 use Rattle.points.proofs.NumberLaws.{back}
@@ -19,9 +19,9 @@ unfolding offset
 returns c =
     let n = c.before.before.normal.ensures in
     let a = c.before.before.before.args.a in
-    let x = (r-i64 tt n.small.x).is ∙ ap (λ (p : Point). p.x) n.is in
-    let y = (r-i64 tt n.small.y).is ∙ ap (λ (p : Point). p.y) n.is in
-    let z = (r-i64 tt n.small.z).is ∙ ap (λ (p : Point). p.z) n.is in
+    let x = (r_i64 tt n.small.x).is ∙ ap (λ (p : Point). p.x) n.is in
+    let y = (r_i64 tt n.small.y).is ∙ ap (λ (p : Point). p.y) n.is in
+    let z = (r_i64 tt n.small.z).is ∙ ap (λ (p : Point). p.z) n.is in
     let o = back tt c.before.dot.ensures ∙ ap (λ (p : Point). dot p a) n.is in
     λ i. x i ∷ y i ∷ z i ∷ o i ∷ []
 

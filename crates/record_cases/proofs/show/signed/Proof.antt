@@ -1,4 +1,4 @@
-use Rattle.record_cases.proofs.SignLaws.{plain, wide, turn-fits, turn-plain}
+use Rattle.record_cases.proofs.SignLaws.{plain, wide, turn_fits, turn_plain}
 use Rattle.record_cases.proofs.show.signed.Statement.{statement}
 use Rattle.record_cases.proofs.show.signed.Tie as tie
 use borrow.Author.Rules.{rules}
@@ -20,10 +20,10 @@ cast-y : tie.Need-overflow-cast-y
 cast-y c = wide (sfits_to_z (Fits-of_z c.before.before.before.ranges.x))
 
 sub-y : tie.Need-overflow-sub-y
-sub-y c = turn-fits (sfits_to_z (Fits-of_z c.before.before.before.ranges.x))
+sub-y c = turn_fits (sfits_to_z (Fits-of_z c.before.before.before.ranges.x))
 
 cast-print-decimal : tie.Need-overflow-cast-print-decimal
-cast-print-decimal c = turn-plain (sfits_to_z (Fits-of_z c.before.before.before.ranges.x)) c.before.before.if1.false
+cast-print-decimal c = turn_plain (sfits_to_z (Fits-of_z c.before.before.before.ranges.x)) c.before.before.if1.false
 
 print-decimal-requires : tie.Need-print-decimal-requires
 print-decimal-requires c κs = search rules

@@ -6,20 +6,20 @@ use borrow.Author.Rules.{rules}
 use lib.ListN.{length, drop, length-drop}
 use lib.Seq.{length-take-le, take_all}
 use Rattle.laws.specs.Lists.{lay}
-use Rattle.records.specs.Record.{countIn, touchesOf}
-use Rattle.records.proofs.BodyLaws.{length-touches}
-use Rattle.records.proofs.CheckLaws.{is-short, is-miscounted, is-other, is-uneven, is-many, is-touches}
-use Rattle.records.proofs.ReadLaws.{opened-none, opened_some}
+use Rattle.records.specs.Record.{count_in, touches_of}
+use Rattle.records.proofs.BodyLaws.{length_touches}
+use Rattle.records.proofs.CheckLaws.{is_short, is_miscounted, is_other, is_uneven, is_many, is_touches}
+use Rattle.records.proofs.ReadLaws.{opened_none, opened_some}
 use Rattle.records.proofs.reading.check_record.Statement.{statement}
 use Rattle.records.proofs.reading.check_record.Tie as tie
 
 long : (c : tie.Else1) → 3 ≤ length c.before.before.args.bytes.now
 long c = c.if1.false
 
-counted : (c : tie.Else2) → let r = c.before.before.before.before.before.before.args.bytes.now in countIn r ≡ length r - 2
+counted : (c : tie.Else2) → let r = c.before.before.before.before.before.before.args.bytes.now in count_in r ≡ length r - 2
 counted c = sym c.before.of_two.ensures ∙ c.if2.false
 
-whole : (c : tie.Else4) → let r = c.before.before.before.before.before.before.before.before.before.args.bytes.now in (countIn r - 1) % 6 ≡ 0
+whole : (c : tie.Else4) → let r = c.before.before.before.before.before.before.before.before.before.args.bytes.now in (count_in r - 1) % 6 ≡ 0
 whole c = ap (λ (k : ℕ). (k - 1) % 6) (sym c.before.before.before.before.of_two.ensures) ∙ c.if4.false
 
 refused-requires : tie.Need-refused-requires
@@ -28,7 +28,7 @@ refused-requires c κs = search rules
 returns : tie.Need-returns
 returns c =
     let a = c.before.before.before.args in
-    opened-none c.refused.ensures (is-short a.version a.bytes.now c.before.if1.true)
+    opened_none c.refused.ensures (is_short a.version a.bytes.now c.before.if1.true)
 
 shared-slice-read-of-two : tie.Need-shared-slice-read-of-two
 shared-slice-read-of-two c = search rules
@@ -49,7 +49,7 @@ returns-2 : tie.Need-returns-2
 returns-2 c =
     let a = c.before.before.before.before.before.before.before.args in
     let o = c.before.before.of_two in
-    opened-none c.refused2.ensures (is-miscounted a.version a.bytes.now (long c.before.before.before.before.before) (λ e. c.before.if2.true (o.ensures ∙ e)))
+    opened_none c.refused2.ensures (is_miscounted a.version a.bytes.now (long c.before.before.before.before.before) (λ e. c.before.if2.true (o.ensures ∙ e)))
 
 shared-slice-read-if3 : tie.Need-shared-slice-read-if3
 shared-slice-read-if3 c = search rules
@@ -61,7 +61,7 @@ returns-3 : tie.Need-returns-3
 returns-3 c =
     let e = c.before.before.before in
     let a = e.before.before.before.before.before.before.args in
-    opened-none c.refused3.ensures (is-other a.version a.bytes.now (long e.before.before.before.before) (counted e) c.before.if3.true)
+    opened_none c.refused3.ensures (is_other a.version a.bytes.now (long e.before.before.before.before) (counted e) c.before.if3.true)
 
 sub-if4 : tie.Need-overflow-sub-if4
 sub-if4 c = search rules
@@ -74,7 +74,7 @@ returns-4 c =
     let e = c.before.before.before.before in
     let a = e.before.before.before.before.before.before.args in
     let o = e.before.of_two in
-    opened-none c.refused4.ensures (is-uneven a.version a.bytes.now (long e.before.before.before.before) (counted e) c.before.before.if3.false (λ f. c.before.if4.true (ap (λ (k : ℕ). (k - 1) % 6) o.ensures ∙ f)))
+    opened_none c.refused4.ensures (is_uneven a.version a.bytes.now (long e.before.before.before.before) (counted e) c.before.before.if3.false (λ f. c.before.if4.true (ap (λ (k : ℕ). (k - 1) % 6) o.ensures ∙ f)))
 
 sub-if5 : tie.Need-overflow-sub-if5
 sub-if5 c = search rules
@@ -88,7 +88,7 @@ returns-5 c =
     let e = f.before.before.before in
     let a = e.before.before.before.before.before.before.args in
     let o = e.before.of_two in
-    opened-none c.refused5.ensures (is-many a.version a.bytes.now (long e.before.before.before.before) (counted e) f.before.if3.false (whole f) (omega (arith, o.ensures, c.before.if5.true)))
+    opened_none c.refused5.ensures (is_many a.version a.bytes.now (long e.before.before.before.before) (counted e) f.before.if3.false (whole f) (omega (arith, o.ensures, c.before.if5.true)))
 
 sub-unpack : tie.Need-overflow-sub-unpack
 sub-unpack c = search rules
@@ -131,9 +131,9 @@ returns-6 c =
     let o = e.before.of_two in
     let n = counted e in
     let w = whole f in
-    opened_some ((o.result - 1) / 2) a.room.now (omega (arith, o.ensures, length-touches (drop 3 r), length-drop 3 r))
-    (c.before.before.before.unpack.ensures ∙ ap (λ (b : List ℕ). lay 0 (touchesOf b) a.room.now) (take_all (length r - 3) (drop 3 r) (omega (arith, length-drop 3 r))))
-    c.check.ensures (is-touches a.version r (long e.before.before.before.before) n f.before.if3.false w)
+    opened_some ((o.result - 1) / 2) a.room.now (omega (arith, o.ensures, length_touches (drop 3 r), length-drop 3 r))
+    (c.before.before.before.unpack.ensures ∙ ap (λ (b : List ℕ). lay 0 (touches_of b) a.room.now) (take_all (length r - 3) (drop 3 r) (omega (arith, length-drop 3 r))))
+    c.check.ensures (is_touches a.version r (long e.before.before.before.before) n f.before.if3.false w)
 
 pub check-record-spec : {M : Type 1} → statement M
 check-record-spec =

@@ -1,5 +1,5 @@
 use borrow.Author.Rules.{rules}
-use Rattle.records.proofs.MachineLaws.{low-is, high_fits, high_is}
+use Rattle.records.proofs.MachineLaws.{low_is, high_fits, high_is}
 use Rattle.records.proofs.reading.coordinate.Statement.{statement}
 use Rattle.records.proofs.reading.coordinate.Tie as tie
 
@@ -22,7 +22,7 @@ sub-result : tie.Need-overflow-sub-result
 sub-result c = high_fits _ c.if1.false (search rules)
 
 returns : tie.Need-returns
-returns c = low-is _ c.if1.true
+returns c = low_is _ c.if1.true
 
 returns-2 : tie.Need-returns-2
 returns-2 c = high_is _ c.if1.false (search rules)

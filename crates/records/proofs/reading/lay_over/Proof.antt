@@ -7,7 +7,7 @@ use mir.Syntax.{w32}
 use mir.ValLaws.{to_z-of_z}
 use Rattle.laws.specs.Lists.{Laid}
 use Rattle.laws.proofs.Tables.{laid_none}
-use Rattle.records.proofs.TableLaws.{laid_next, laid-all}
+use Rattle.records.proofs.TableLaws.{laid_next, laid_all}
 use Rattle.records.proofs.reading.lay_over.Statement.{statement}
 use Rattle.records.proofs.reading.lay_over.Tie as tie
 
@@ -51,7 +51,7 @@ same_length : tie.Need-same-length invariant-loop decreases-loop
 same_length c = search rules
 
 returns : tie.Need-returns invariant-loop decreases-loop
-returns c = let l = c.before.loop in laid-all c.before.before.args.new.now l.i (search rules) l.invariant.2
+returns c = let l = c.before.loop in laid_all c.before.before.args.new.now l.i (search rules) l.invariant.2
 
 pub lay-over-spec : {M : Type 1} → statement M
 lay-over-spec =

@@ -4,7 +4,7 @@ use native.Mathlib.Omega.{arith}
 use borrow.Author.Rules.{rules}
 use lib.ListN.{length}
 use lib.Seq.{length-take-le}
-use Rattle.records.proofs.ReadLaws.{opened-few, gives-touches, gives-11, gives-refused}
+use Rattle.records.proofs.ReadLaws.{opened_few, gives_touches, gives_11, gives_refused}
 use Rattle.records.proofs.reading.read_as.Statement.{statement}
 use Rattle.records.proofs.reading.read_as.Tie as tie
 
@@ -12,7 +12,7 @@ few : (c : tie.After-lay-over-arg) → c.before.before.before.list.given.0.0.cou
 few c =
     let l = c.before.before.before in
     let k = l.before.before.before.check-record in
-    omega (arith, opened-few k.ensures l.list.given.1, k.auto.0)
+    omega (arith, opened_few k.ensures l.list.given.1, k.auto.0)
 
 slice-aggregate-check-record : tie.Need-slice-aggregate-check-record
 slice-aggregate-check-record c = search rules
@@ -27,7 +27,7 @@ enum-known-list : tie.Need-enum-known-list
 enum-known-list c = search rules
 
 mul-m : tie.Need-overflow-mul-m
-mul-m c = record { fits = omega (arith, opened-few c.before.before.before.before.check-record.ensures c.before.list.given.1) }
+mul-m c = record { fits = omega (arith, opened_few c.before.before.before.before.check-record.ensures c.before.list.given.1) }
 
 because-requires : tie.Need-because-requires
 because-requires c κs = search rules
@@ -35,7 +35,7 @@ because-requires c κs = search rules
 returns : tie.Need-returns
 returns c =
     let l = c.before.before.before in
-    rw c.because.ensures (gives-11 l.before.before.before.check-record.ensures l.list.given.1 c.before.if1.true)
+    rw c.because.ensures (gives_11 l.before.before.before.check-record.ensures l.list.given.1 c.before.if1.true)
 
 array-share-prefix-room : tie.Need-array-share-prefix-room
 array-share-prefix-room c = few c
@@ -51,7 +51,7 @@ lay-over-requires c κs =
     rw (length-take-le (e.before.before.before.list.given.0.0.count * 3) e.before.before.before.before.before.before.check-record.new.0 (few e)) e.before.if1.false
 
 returns-2 : tie.Need-returns-2
-returns-2 c = gives-refused c.before.before.before.before.check-record.ensures c.before.x.given.1
+returns-2 c = gives_refused c.before.before.before.before.check-record.ensures c.before.x.given.1
 
 same_length : tie.Need-same-length
 same_length c = search rules
@@ -59,7 +59,7 @@ same_length c = search rules
 returns-3 : tie.Need-returns-3
 returns-3 c =
     let l = c.before.before.before.before.before.before in
-    gives-touches l.before.before.before.check-record.ensures l.list.given.1 c.before.before.before.before.if1.false c.before.lay-over.ensures
+    gives_touches l.before.before.before.check-record.ensures l.list.given.1 c.before.before.before.before.if1.false c.before.lay-over.ensures
 
 pub read-as-spec : {M : Type 1} → statement M
 read-as-spec =

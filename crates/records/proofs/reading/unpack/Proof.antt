@@ -8,14 +8,14 @@ use mir.Syntax.{w32}
 use mir.ValLaws.{to_z-of_z}
 use Rattle.laws.specs.Lists.{Laid}
 use Rattle.laws.proofs.Tables.{laid_none}
-use Rattle.records.specs.Record.{touchesOf}
-use Rattle.records.proofs.BodyLaws.{length-touches, touch-at}
-use Rattle.records.proofs.TableLaws.{laid_next, laid-all}
+use Rattle.records.specs.Record.{touches_of}
+use Rattle.records.proofs.BodyLaws.{length_touches, touch_at}
+use Rattle.records.proofs.TableLaws.{laid_next, laid_all}
 use Rattle.records.proofs.reading.unpack.Statement.{statement}
 use Rattle.records.proofs.reading.unpack.Tie as tie
 
 abbrev invariant-loop : tie.invariant-loop
-invariant-loop room₀ body n i₀ room i = (i ≤ n) × (length room ≡ length room₀) × Laid 0 (take i (touchesOf body)) room₀ i room
+invariant-loop room₀ body n i₀ room i = (i ≤ n) × (length room ≡ length room₀) × Laid 0 (take i (touches_of body)) room₀ i room
 
 abbrev decreases-loop : tie.decreases-loop
 decreases-loop room₀ body n i₀ room i = n - i
@@ -63,8 +63,8 @@ loop-again c =
     let v = c.coordinate in (
       search rules,
       simp length-set l.invariant.1,
-      laid_next (touchesOf b) l.i (pos 0) _ (omega (arith, length-touches b)) (search rules)
-          (to_z-of_z w32 v.result (sfits_of v.type-inv) ∙ v.ensures ∙ sym (touch-at b l.i (search rules))) l.invariant.2,
+      laid_next (touches_of b) l.i (pos 0) _ (omega (arith, length_touches b)) (search rules)
+          (to_z-of_z w32 v.result (sfits_of v.type-inv) ∙ v.ensures ∙ sym (touch_at b l.i (search rules))) l.invariant.2,
     )
 
 same_length : tie.Need-same-length invariant-loop decreases-loop
@@ -74,7 +74,7 @@ returns : tie.Need-returns invariant-loop decreases-loop
 returns c =
     let l = c.before.loop in
     let b = c.before.before.before.args.body.now in
-    laid-all (touchesOf b) l.i (omega (arith, length-touches b)) l.invariant.2
+    laid_all (touches_of b) l.i (omega (arith, length_touches b)) l.invariant.2
 
 pub unpack-spec : {M : Type 1} → statement M
 unpack-spec =

@@ -1,18 +1,18 @@
-use Rattle.records.proofs.MachineLaws.{plain-held, plain-is, raised-fits, raised-held, raised_is}
+use Rattle.records.proofs.MachineLaws.{plain_held, plain_is, raised_fits, raised_held, raised_is}
 use Rattle.records.proofs.writing.bits_of.Statement.{statement}
 use Rattle.records.proofs.writing.bits_of.Tie as tie
 
 cast-result : tie.Need-overflow-cast-result
-cast-result c = plain-held c.before.requires c.if1.true
+cast-result c = plain_held c.before.requires c.if1.true
 
 add-result : tie.Need-overflow-add-result
-add-result c = raised-fits c.before.requires
+add-result c = raised_fits c.before.requires
 
 cast-result-2 : tie.Need-overflow-cast-result-2
-cast-result-2 c = raised-held c.before.requires c.if1.false
+cast-result-2 c = raised_held c.before.requires c.if1.false
 
 returns : tie.Need-returns
-returns c = plain-is c.before.requires c.if1.true
+returns c = plain_is c.before.requires c.if1.true
 
 returns-2 : tie.Need-returns-2
 returns-2 c = raised_is c.before.requires c.if1.false

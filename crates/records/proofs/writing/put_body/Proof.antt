@@ -3,11 +3,11 @@ use Prim.Native.Nat.{◌≤◌, ◌-◌, ◌+◌, ◌*◌}
 use native.Mathlib.Omega.{arith}
 use borrow.Author.Rules.{rules}
 use lib.ListN.{length, take}
-use Rattle.laws.proofs.Words.{size, r-i32}
+use Rattle.laws.proofs.Words.{size, r_i32}
 use Rattle.laws.specs.Lists.{Laid}
 use Rattle.laws.proofs.Tables.{laid_none, laid_then}
 use Rattle.records.specs.Record.{bits16, body_of}
-use Rattle.records.proofs.BodyLaws.{body-none, body_more, body-all}
+use Rattle.records.proofs.BodyLaws.{body_none, body_more, body_all}
 use Rattle.records.proofs.writing.put_body.Statement.{statement}
 use Rattle.records.proofs.writing.put_body.Tie as tie
 
@@ -18,7 +18,7 @@ abbrev decreases-loop : tie.decreases-loop
 decreases-loop buffer₀ start coords at₀ i₀ buffer at i = length coords - i
 
 loop-holds : tie.Need-loop-init invariant-loop decreases-loop
-loop-holds c = (search rules, search rules, refl, rw body-none (laid_none _ _))
+loop-holds c = (search rules, search rules, refl, rw body_none (laid_none _ _))
 
 mul-bits-of : tie.Need-overflow-mul-bits-of invariant-loop decreases-loop
 mul-bits-of c = search rules
@@ -27,7 +27,7 @@ shared-slice-copy-out-bits-of : tie.Need-shared-slice-copy-out-bits-of invariant
 shared-slice-copy-out-bits-of c = search rules
 
 bits-of-requires : tie.Need-bits-of-requires invariant-loop decreases-loop
-bits-of-requires c κs = size (r-i32 tt (c.before.before.before.before.before.requires.0.near c.before.before.before.loop.i (search rules)))
+bits-of-requires c κs = size (r_i32 tt (c.before.before.before.before.before.requires.0.near c.before.before.before.loop.i (search rules)))
 
 put-two-requires : tie.Need-put-two-requires invariant-loop decreases-loop
 put-two-requires c κs = omega (arith, c.before.before.before.before.loop.invariant.1, c.before.before.before.before.before.before.requires.1)
@@ -47,7 +47,7 @@ loop-again c =
       search rules,
       omega (arith, q.ensures.next, l.invariant.1),
       q.auto.0 ∙ l.invariant.2,
-      rw (body_more s.args.coords.now l.i (search rules)) (laid_then l.invariant.3 (omega (arith, l.invariant.1, s.requires.1)) (rw (c.before.before.before.bits_of.ensures ∙ ap bits16 (r-i32 tt h).is) at q.ensures)),
+      rw (body_more s.args.coords.now l.i (search rules)) (laid_then l.invariant.3 (omega (arith, l.invariant.1, s.requires.1)) (rw (c.before.before.before.bits_of.ensures ∙ ap bits16 (r_i32 tt h).is) at q.ensures)),
     )
 
 same_length : tie.Need-same-length invariant-loop decreases-loop
@@ -56,7 +56,7 @@ same_length c = search rules
 returns : tie.Need-returns invariant-loop decreases-loop
 returns c =
     let l = c.before.loop in
-    rw (← body-all c.before.before.before.args.coords.now l.i (search rules)) l.invariant.3
+    rw (← body_all c.before.before.before.args.coords.now l.i (search rules)) l.invariant.3
 
 pub put-body-spec : {M : Type 1} → statement M
 put-body-spec =

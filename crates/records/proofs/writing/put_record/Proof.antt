@@ -2,7 +2,7 @@ use mathlib.Core.Path.{◌∙◌}
 use native.Mathlib.Omega.{arith}
 use borrow.Author.Rules.{rules}
 use lib.ListN.{length-set}
-use Rattle.records.proofs.WriteLaws.{laid-record}
+use Rattle.records.proofs.WriteLaws.{laid_record}
 use Rattle.records.proofs.writing.put_record.Statement.{statement}
 use Rattle.records.proofs.writing.put_record.Tie as tie
 
@@ -34,7 +34,7 @@ returns : tie.Need-returns
 returns c =
     let t = c.before.before.before.before.before.before.put_two in
     let s = c.before.before.before.before.before.before.before.before.before in
-    laid-record s.args.version s.args.coords.now s.requires.0 (omega (arith, t.ensures.next, t.auto.0, s.requires.1)) t.ensures c.before.before.put-body.ensures
+    laid_record s.args.version s.args.coords.now s.requires.0 (omega (arith, t.ensures.next, t.auto.0, s.requires.1)) t.ensures c.before.before.put-body.ensures
 
 pub put-record-spec : {M : Type 1} → statement M
 put-record-spec =

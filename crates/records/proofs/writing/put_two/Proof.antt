@@ -1,7 +1,7 @@
 use native.Mathlib.Omega.{arith}
 use borrow.Author.Rules.{rules}
 use lib.ListN.{length-set}
-use Rattle.records.proofs.TableLaws.{laid-two}
+use Rattle.records.proofs.TableLaws.{laid_two}
 use Rattle.records.proofs.writing.put_two.Statement.{statement}
 use Rattle.records.proofs.writing.put_two.Tie as tie
 
@@ -27,7 +27,7 @@ same_length : tie.Need-same-length
 same_length c = search rules
 
 returns : tie.Need-returns
-returns c = laid-two c.args.at _ _ c.args.buffer.now (search rules)
+returns c = laid_two c.args.at _ _ c.args.buffer.now (search rules)
 
 pub put-two-spec : {M : Type 1} → statement M
 put-two-spec =
