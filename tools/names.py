@@ -17,6 +17,7 @@ SPAN = re.compile(r"`[^`\n]+`")
 USE = re.compile(r"use\s+([^\s;{]+?)\.\{([^}]*)\}", re.S)
 TOP = re.compile(r"^(?:(?:pub|abbrev|unfoldable) )*([^\s(){}.;,:|=]+) (?:\{[^}]*\} )?:\s")
 INNER = re.compile(r"^\s+(?:pub )?([^\s(){}.;,:|=]+) (?:\{[^}]*\} )?:\s")
+SEVERAL = re.compile(r"^\s+((?:[a-z][A-Za-z]* )+[a-z][A-Za-z]*) :\s")
 LET = re.compile(r"\b(?:let|where) ([^\s(){}.;,:|=]+) :\s")
 # Where a dash joins an operator to a plain word, the word is added with '_'.
 ROWS = {
@@ -73,6 +74,9 @@ def declared(text):
             found = pattern.match(line)
             if found:
                 into.add(found[1])
+        found = SEVERAL.match(line)
+        if found:
+            inner |= set(found[1].split())
         inner |= set(LET.findall(line))
     return top, inner
 

@@ -32,7 +32,7 @@ build_same p h (k ∷ ks) n = ap (λ (g : List Face). build p g ks) (step_same p
 pub build_hull : {p : Places} {done : List ℕ} {h : List Face} → Hull p done h → (ks : List ℕ) → Hull p (ks ++ done) (build p h ks)
 unfolding build
 build_hull H [] = H
-build_hull {p} {done} {h} H (k ∷ ks) = hull_touches (build_hull (step_hull H k) ks) (λ t m. to t (in_append ks m)) (λ t m. from t (Memᴰ.cases_cons m))
+build_hull {p} {done} {h} H (k ∷ ks) = hull_touches (build_hull {done = k ∷ done} (step_hull H k) ks) (λ t m. to t (in_append ks m)) (λ t m. from t (Memᴰ.cases_cons m))
   where
     to : (t : ℕ) → In t ks ⊎ In t (k ∷ done) → In t (k ∷ (ks ++ done))
     to t (inl i) = there (append_l done i)
@@ -53,18 +53,18 @@ build_hull {p} {done} {h} H (k ∷ ks) = hull_touches (build_hull (step_hull H k
 pub build_inside : {p : Places} {done : List ℕ} {h : List Face} → Hull p done h → (ks : List ℕ) (q : Point) → Inside p h q → Inside p (build p h ks) q
 unfolding build
 build_inside H [] q d = d
-build_inside H (k ∷ ks) q d = build_inside (step_hull H k) ks q (step_inside H k q d)
+build_inside {done = done} H (k ∷ ks) q d = build_inside {done = k ∷ done} (step_hull H k) ks q (step_inside H k q d)
 
 pub build_within : {p : Places} {done : List ℕ} {h : List Face} → Hull p done h → (ks : List ℕ) (q : Point) → OnOrInside p h q → OnOrInside p (build p h ks) q
 unfolding build
 build_within H [] q d = d
-build_within H (k ∷ ks) q d = build_within (step_hull H k) ks q (step_within H k q d)
+build_within {done = done} H (k ∷ ks) q d = build_within {done = k ∷ done} (step_hull H k) ks q (step_within H k q d)
 
 -- the volume never falls
 pub build_keeps : {p : Places} {done : List ℕ} {h : List Face} → Hull p done h → (ks : List ℕ) (o : Point) → volume_at p h o ≤ℤ volume_at p (build p h ks) o
 unfolding build
 build_keeps {p} {done} {h} H [] o = ≤_refl (volume_at p h o)
-build_keeps H (k ∷ ks) o = ≤_trans (step_keeps H k o) (build_keeps (step_hull H k) ks o)
+build_keeps {done = done} H (k ∷ ks) o = ≤_trans (step_keeps H k o) (build_keeps {done = k ∷ done} (step_hull H k) ks o)
 
 -- it rises if a touch is in front of a face: at the first step that changes the list
 pub build_grows : {p : Places} {done : List ℕ} {h : List Face} → Hull p done h → (ks : List ℕ) (o : Point) (k : ℕ) → In k ks → (f : Face) → In f h → T (visible p k f) → volume_at p h o <ℤ volume_at p (build p h ks) o

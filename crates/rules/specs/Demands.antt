@@ -61,21 +61,21 @@ Astray p h q = OnOrInside p h q × OnPlane p h q × ((f : Face) → In f h → T
 
 -- 01's three cases, without face numbers: in front of some face, else on the plane of some face, else neither
 pub data Case : Type 0 where
-  outsideCase onCase insideCase : Case
+  outside_case on_case inside_case : Case
 
 abbrev pub by_firsts : Option ℕ → Option ℕ → Case
-by_firsts (some f) o = outsideCase
-by_firsts none (some f) = onCase
-by_firsts none none = insideCase
+by_firsts (some f) o = outside_case
+by_firsts none (some f) = on_case
+by_firsts none none = inside_case
 
 abbrev pub case_before : Places → List Face → Point → Case
 case_before p h q = by_firsts (first_from (λ f. lt_z (face_vol p f q) (pos 0)) 0 h) (first_from (λ f. is_zero (face_vol p f q)) 0 h)
 
 abbrev pub case_of : Lies → Case
-case_of (outside i d) = outsideCase
-case_of (on i) = onCase
-case_of inside = insideCase
-case_of astray = onCase
+case_of (outside i d) = outside_case
+case_of (on i) = on_case
+case_of inside = inside_case
+case_of astray = on_case
 
 -- demand 2: h is a closed surface over the first n touches, no touch is in front of it, and it has a body
 pub record Surface (p : Places) (n : ℕ) (h : List Face) : Type 0 where

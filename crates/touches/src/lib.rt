@@ -1,18 +1,20 @@
 // The touch list: its limits, touch and face numbers, refusals, and the check of a lent list.
+#![tactic(auto)]
+
 ghost use Rattle.std.specs.Prelude.{◌≡◌, ◌*◌, ◌≤◌, length};
 ghost use Rattle.touches.specs.Limits.{most_touches, limits_of, in_range, place_in_range};
 ghost use Rattle.touches.specs.Touches.{plain};
 ghost use Rattle.touches.specs.Refusals.{because};
 ghost use Rattle.touches.specs.Check.{stray_from, checked};
 
-#[derive(Drop)]
+#[derive(Clone, Copy)]
 pub struct TouchNo(pub u16);
 
-#[derive(Drop)]
+#[derive(Clone, Copy)]
 pub struct FaceNo(pub u16);
 
 // A touch, a place that is asked about, or the difference of two: room for every number that V works with.
-#[derive(Drop)]
+#[derive(Clone, Copy)]
 pub struct Point {
     pub x: i64,
     pub y: i64,
@@ -20,12 +22,12 @@ pub struct Point {
 }
 
 // A lent list that passed refusals 1 to 3: how many touches it holds.
-#[derive(Drop)]
+#[derive(Clone, Copy)]
 pub struct TouchList {
     pub count: usize,
 }
 
-#[derive(Drop)]
+#[derive(Clone, Copy)]
 pub struct Limits {
     pub touches: usize,
     pub reach: i64,
@@ -55,7 +57,7 @@ impl TouchList {
 }
 
 // Why a call was refused: the paper's number, and the touch that it speaks of.
-#[derive(Drop)]
+#[derive(Clone, Copy)]
 pub struct Refusal {
     pub number: u8,
     pub place: TouchNo,
@@ -100,13 +102,13 @@ impl Refusal {
     }
 }
 
-#[derive(Drop)]
+#[derive(Clone, Copy)]
 pub enum Checked {
     Accepted(TouchList),
     Refused(Refusal),
 }
 
-#[derive(Drop)]
+#[derive(Clone, Copy)]
 enum Stray {
     Nowhere,
     At(TouchNo),
