@@ -55,20 +55,16 @@ pub fn row(rt: &impl Print, r: &[u32]) -> io::Result<()> {
 // How many numbers of a table that was all 9 are not.
 fn changed_list(list: &[i32]) -> u64 {
     let mut n: u64 = 0;
-    let mut i: usize = 0;
-    while i < list.len() {
-        n = one_more(n, list[i] != 9);
-        i += 1;
+    for x in list {
+        n = one_more(n, *x != 9);
     }
     n
 }
 
 fn changed_bytes(bytes: &[u8]) -> u64 {
     let mut n: u64 = 0;
-    let mut i: usize = 0;
-    while i < bytes.len() {
-        n = one_more(n, bytes[i] != 9);
-        i += 1;
+    for x in bytes {
+        n = one_more(n, *x != 9);
     }
     n
 }
