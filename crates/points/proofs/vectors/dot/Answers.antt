@@ -19,6 +19,12 @@ module _ {u v : Point} (h : Small most_normal u) (k : Small most_gap v) where
   three : Reads most_volume (rd (rd (rd u.x *ℤ rd v.x) +ℤ rd (rd u.y *ℤ rd v.y)) +ℤ rd (rd u.z *ℤ rd v.z)) (u.x *ℤ v.x +ℤ u.y *ℤ v.y +ℤ u.z *ℤ v.z)
   three = r_add (stored w64 two tt) (stored w64 (part h.z k.z) tt)
 
+pub overflow_mul-result : goal.overflow_mul-result
+overflow_mul-result c = let h = c.requires in fits w64 (part h.0.x h.1.x) tt
+
+pub overflow_mul-result-2 : goal.overflow_mul-result-2
+overflow_mul-result-2 c = let h = c.requires in fits w64 (part h.0.y h.1.y) tt
+
 pub overflow_add-result : goal.overflow_add-result
 overflow_add-result c = let h = c.requires in fits w64 (two h.0 h.1) tt
 
