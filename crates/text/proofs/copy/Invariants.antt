@@ -1,4 +1,4 @@
-use Rattle.std.proofs.Common.{length, take, ◌-◌, ◌≡◌, ◌+◌, ◌≤◌}
+use Rattle.std.proofs.Common.{length, take, ◌-◌, ◌+◌, ◌≤◌}
 use Rattle.laws.specs.Lists.{Laid}
 use Rattle.text.proofs.copy.Given as goal
 
