@@ -1,4 +1,6 @@
 // The border of the faces that a touch sees, and the cone over it: a step of building that needs no V. None is a call.
+#![tactic(auto)]
+
 mod cone;
 mod marks;
 

@@ -69,7 +69,7 @@ module _ (p : Places) (s : Start) (solid : Vol (p s.P) (p s.Q) (p s.R) (p s.S) �
   unfolding build face_vol
   build_count H first inside [] more = refl
   build_count {done} {h} H first inside (k ∷ ks) more =
-      build_count (step_hull H k) (λ t i. there (first t i)) (cons_each (λ t. In t l) (more k (here refl)) inside) ks (λ j i. more j (there i))
+      build_count {done = k ∷ done} (step_hull H k) (λ t i. there (first t i)) (cons_each (λ t. In t l) (more k (here refl)) inside) ks (λ j i. more j (there i))
       ∙ step_count g H k inside (more k (here refl)) (turned (centre p s solid first) H)
       (λ f m t. in_front (pos 4) (middle p s) (p (corner f 0)) (p (corner f 1)) (p (corner f 2)) (p k) (lt_z_yes tt) (turned (centre p s solid first) H f m) (seen→ p k f t))
 

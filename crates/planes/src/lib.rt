@@ -1,4 +1,6 @@
 // The plane of a face as four doubles, and its reading at a place.
+#![tactic(auto)]
+
 ghost use Rattle.std.specs.Prelude.{◌≡◌, ◌<◌, neg_ℤ};
 ghost use Rattle.touches.specs.Touches.{Near, Sound, touch_count};
 ghost use Rattle.volume.specs.Volume.{Vol};
@@ -11,7 +13,7 @@ use points::vectors::in_line;
 use touches::{Checked, Point, Refusal, TouchNo};
 
 // The three parts of the normal, and its dot product with the first corner: each exactly that whole number, zero being plus zero.
-#[derive(Drop)]
+#[derive(Clone, Copy)]
 pub struct Plane {
     pub x: f64,
     pub y: f64,
@@ -19,13 +21,13 @@ pub struct Plane {
     pub offset: f64,
 }
 
-#[derive(Drop)]
+#[derive(Clone, Copy)]
 pub enum Planed {
     Of(Plane),
     Refused(Refusal),
 }
 
-#[derive(Drop)]
+#[derive(Clone, Copy)]
 pub enum Reading {
     Of(f64),
     Refused(Refusal),

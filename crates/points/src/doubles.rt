@@ -5,7 +5,7 @@ ghost use Rattle.points.specs.Doubles.{InDoubles, spot_normal};
 
 use touches::Point;
 
-#[derive(Drop)]
+#[derive(Clone, Copy)]
 pub struct Spot {
     pub x: f64,
     pub y: f64,

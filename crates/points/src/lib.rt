@@ -1,4 +1,6 @@
 // Steps that the crates above share, on coordinates that passed refusals 1 to 3. None is a call: each asks for that check.
+#![tactic(auto)]
+
 pub mod doubles;
 pub mod touch;
 pub mod vectors;

@@ -1,4 +1,6 @@
 // Touch records: reading, writing and copying.
+#![tactic(auto)]
+
 mod reading;
 mod writing;
 
@@ -11,20 +13,20 @@ use touches::{Refusal, TouchList, TouchNo};
 // The version that the plain calls read and write.
 const PLAIN: u8 = 1;
 
-#[derive(Drop)]
+#[derive(Clone, Copy)]
 pub enum ReadAnswer {
     Touches(usize),
     Refused(Refusal),
 }
 
-#[derive(Drop)]
+#[derive(Clone, Copy)]
 pub enum WriteAnswer {
     Bytes(usize),
     Refused(Refusal),
 }
 
 // The paper's numbers of an answer: refusal number and place, and the count of touches or bytes.
-#[derive(Drop)]
+#[derive(Clone, Copy)]
 pub struct Numbers {
     pub number: u8,
     pub place: TouchNo,

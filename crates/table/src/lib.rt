@@ -1,4 +1,6 @@
 // The lent face table. No other crate knows how many numbers a face takes in it.
+#![tactic(auto)]
+
 ghost use Rattle.std.specs.Prelude.{◌≡◌, ◌+◌, ◌*◌, ◌≤◌, leb, ltb, length, get_or};
 ghost use Rattle.laws.specs.Lists.{every, lay, Laid};
 ghost use Rattle.touches.specs.Limits.{most_faces};

@@ -1,5 +1,7 @@
 // Numbers and bytes as text in a lent table, from a place on. Each call gives the next place; where there is no room for
 // all of its text it writes nothing and gives the same place.
+#![tactic(auto)]
+
 ghost use Rattle.std.specs.Prelude.{◌≡◌, ◌+◌, ◌<◌, ◌≤◌, pos, nat_abs, length, ◌<ℤ◌};
 ghost use Rattle.laws.specs.Lists.{Laid};
 ghost use Rattle.text.specs.Decimal.{digit, decimal, whole};

@@ -1,5 +1,7 @@
 // Which places of its plane a triangle contains: a step on points in range. No number in it is larger than a part of a normal, where
 // the product of two normals would leave 64 bits.
+#![tactic(auto)]
+
 ghost use Rattle.std.specs.Prelude.{◌≡◌, pos};
 ghost use Rattle.touches.specs.Touches.{Near, Small};
 ghost use Rattle.volume.specs.Volume.{Vol, most_normal};
@@ -54,6 +56,7 @@ fn on_segment(a: Point, b: Point, c: Point, q: Point) -> bool
 }
 
 // The triangle of a, b, c contains q, which is on their plane.
+#[tactic(auto, unfolding(volume::specs::Triangle::contains))]
 pub fn contains(a: Point, b: Point, c: Point, q: Point) -> bool
     requires { Near a × Near b × Near c × Near q × (Vol a b c q ≡ pos 0) }
     ensures { result ≡ contains a b c q }
