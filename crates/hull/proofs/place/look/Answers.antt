@@ -1,20 +1,12 @@
-use mathlib.Core.Path.{◌≡◌, sym, ◌∙◌, ap, subst}
-use mathlib.Core.List.{List}
-use Prim.Native.Nat.{ℕ, ◌<◌}
+use mathlib.Core.Path.{sym, ◌∙◌, ap, subst}
+use Prim.Native.Nat.{◌<◌}
 use native.Mathlib.Omega.{arith}
-use lib.Dec.{eqb}
-use lib.IntN.{ℤ}
-use mir.Syntax.{w64}
-use mir.Val.{of_z}
-use Rattle.touches.specs.declared.Point.{Point}
-use Rattle.touches.specs.Touches.{plain, touch, touch_count}
-use Rattle.volume.specs.Volume.{most_volume, is_zero}
-use Rattle.rules.specs.Faces.{Face, face_vol}
+use Rattle.volume.specs.Volume.{is_zero}
+use Rattle.rules.specs.Faces.{Face}
 use Rattle.rules.specs.Demands.{FaceOf}
-use Rattle.table.specs.Table.{room, face_at, usable}
+use Rattle.table.specs.Table.{room}
 use Rattle.table.proofs.UsableLaws.{usable_few, usable_face}
-use Rattle.points.specs.Sizes.{Number}
-use Rattle.points.proofs.NumberLaws.{rd, back, back_small, zero_test}
+use Rattle.points.proofs.NumberLaws.{back, back_small, zero_test}
 use Rattle.hull.proofs.PlaceLaws.{looked_more, worst_more, against, holding, flat, settled_is}
 use Rattle.hull.proofs.place.look.Goals as goal
 

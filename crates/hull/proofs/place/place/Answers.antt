@@ -1,4 +1,3 @@
-use borrow.Author.Tests.{not-false}
 use mathlib.Core.Path.{sym, ap, ◌∙◌}
 use Prim.Native.Nat.{ℕ}
 use Rattle.touches.proofs.SoundLaws.{accepted_sound, place_near}
@@ -11,6 +10,6 @@ look-requires c =
     let p = accepted_sound a.coords.now c.in-Accepted.list (sym c.in-Accepted.ensures) in
     (
       p.sound,
-      sym (ap (λ (n : ℕ). usable n a.faces.now) p.count) ∙ sym c.is_usable.ensures ∙ not-false c.is_usable.result c.if-not-is_usable.false,
-      place_near a.q (sym c.place_in_range.ensures ∙ not-false c.place_in_range.result c.if-not-place_in_range.false),
+      sym (ap (λ (n : ℕ). usable n a.faces.now) p.count) ∙ sym c.is_usable.ensures ∙ c.if-not-is_usable.false,
+      place_near a.q (sym c.place_in_range.ensures ∙ c.if-not-place_in_range.false),
     )
