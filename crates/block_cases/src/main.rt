@@ -1,6 +1,9 @@
 // Builds small blocks into lent tables of several rooms and places places against them, one line a case; `stdout` beside src/ is what they must be.
+#![tactic(auto)]
+
 use hull::build::Built;
 use hull::place::Placed;
+use std::io;
 use touches::{Point, Refusal, TouchList};
 
 const R: i32 = 30000;
@@ -34,8 +37,8 @@ const TWICE: [u16; 9] = [1, 0, 2, 2, 3, 1, 2, 3, 1];
 
 const MISSING: [u16; 12] = [1, 0, 2, 1, 3, 0, 0, 3, 2, 2, 3, 4];
 
-fn say(text: &[u8]) {
-    io::write_all(1, text);
+fn say(rt: &impl Print, text: &str) -> io::Result<()> {
+    rt.print(text)
 }
 
 fn wide8(x: u8) -> u64 {
@@ -46,166 +49,162 @@ fn wide16(x: u16) -> u64 {
     x as u64
 }
 
-fn field(n: u64) {
-    say(b" ");
-    io::print_decimal(1, n);
+fn field(rt: &impl Print, n: u64) -> io::Result<()> {
+    print!(rt; " {n}")
 }
 
-fn signed(v: i64) {
+fn signed(rt: &impl Print, v: i64) -> io::Result<()> {
     if v < 0 {
-        say(b" negative");
-        return;
+        return say(rt, " negative");
     }
-    field(v as u64);
+    field(rt, v as u64)
 }
 
-fn refused(r: Refusal) {
-    say(b"refused");
-    field(wide8(r.number));
-    field(wide16(r.place.0));
+fn refused(rt: &impl Print, r: Refusal) -> io::Result<()> {
+    say(rt, "refused")?;
+    field(rt, wide8(r.number))?;
+    field(rt, wide16(r.place.0))
 }
 
-fn table(faces: &[u16]) {
-    let mut i: usize = 0;
-    while i < faces.len() {
-        field(wide16(faces[i]));
-        i += 1;
+fn table(rt: &impl Print, faces: &[u16]) -> io::Result<()> {
+    for face in faces {
+        field(rt, wide16(*face))?;
     }
-    say(b"\n");
+    say(rt, "\n")
 }
 
 // The answer, and all of the lent table after it.
-fn build(coords: &[i32], faces: &mut [u16]) {
+fn build(rt: &impl Print, coords: &[i32], faces: &mut [u16]) -> io::Result<()> {
     match hull::build::build(coords, faces) {
-        Built::Refused(r) => refused(r),
+        Built::Refused(r) => refused(rt, r)?,
         Built::Hull(n, v) => {
-            say(b"hull");
-            field(wide16(n));
-            signed(v);
+            say(rt, "hull")?;
+            field(rt, wide16(n))?;
+            signed(rt, v)?;
         }
     }
-    say(b" |");
-    table(faces);
+    say(rt, " |")?;
+    table(rt, faces)
 }
 
-fn place(coords: &[i32], faces: &[u16], x: i64, y: i64, z: i64) {
+fn place(rt: &impl Print, coords: &[i32], faces: &[u16], x: i64, y: i64, z: i64) -> io::Result<()> {
     match hull::place::place(coords, faces, Point { x, y, z }) {
-        Placed::Refused(r) => refused(r),
-        Placed::Inside => say(b"inside"),
+        Placed::Refused(r) => refused(rt, r)?,
+        Placed::Inside => say(rt, "inside")?,
         Placed::On(f) => {
-            say(b"on");
-            field(wide16(f.0));
+            say(rt, "on")?;
+            field(rt, wide16(f.0))?;
         }
         Placed::Outside(f, d) => {
-            say(b"outside");
-            field(wide16(f.0));
-            signed(d);
+            say(rt, "outside")?;
+            field(rt, wide16(f.0))?;
+            signed(rt, d)?;
         }
     }
-    say(b"\n");
+    say(rt, "\n")
 }
 
 // Room 3 and 4, odd numbers at the end, more room than needed.
-fn rooms() {
-    build(&T, &mut [7u16; 9]);
-    build(&T, &mut [7u16; 11]);
-    build(&T, &mut [7u16; 12]);
-    build(&T, &mut [7u16; 14]);
-    build(&T, &mut [7u16; 0]);
-    build(&LOW, &mut [7u16; 12]);
-    build(&OCTAHEDRON, &mut [7u16; 23]);
-    build(&OCTAHEDRON, &mut [7u16; 24]);
+fn rooms(rt: &impl Print) -> io::Result<()> {
+    build(rt, &T, &mut [7u16; 9])?;
+    build(rt, &T, &mut [7u16; 11])?;
+    build(rt, &T, &mut [7u16; 12])?;
+    build(rt, &T, &mut [7u16; 14])?;
+    build(rt, &T, &mut [7u16; 0])?;
+    build(rt, &LOW, &mut [7u16; 12])?;
+    build(rt, &OCTAHEDRON, &mut [7u16; 23])?;
+    build(rt, &OCTAHEDRON, &mut [7u16; 24])
 }
 
 // Refusals 1 to 5, each before the next.
-fn build_refusals() {
+fn build_refusals(rt: &impl Print) -> io::Result<()> {
     let many = [0i32; TouchList::MOST * 3 + 3];
     let odd = [0i32; TouchList::MOST * 3 + 4];
     let mut stray = many;
     stray[7] = R + 1;
-    build(&T[..11], &mut [7u16; 3]);
-    build(&odd, &mut [7u16; 3]);
-    build(&many, &mut [7u16; 3]);
-    build(&stray, &mut [7u16; 3]);
-    build(&FAR, &mut [7u16; 3]);
-    build(&FAR[3..], &mut [7u16; 3]);
-    build(&FLAT, &mut [7u16; 3]);
-    build(&T[..9], &mut [7u16; 3]);
-    build(&T[..0], &mut [7u16; 3]);
+    build(rt, &T[..11], &mut [7u16; 3])?;
+    build(rt, &odd, &mut [7u16; 3])?;
+    build(rt, &many, &mut [7u16; 3])?;
+    build(rt, &stray, &mut [7u16; 3])?;
+    build(rt, &FAR, &mut [7u16; 3])?;
+    build(rt, &FAR[3..], &mut [7u16; 3])?;
+    build(rt, &FLAT, &mut [7u16; 3])?;
+    build(rt, &T[..9], &mut [7u16; 3])?;
+    build(rt, &T[..0], &mut [7u16; 3])
 }
 
 // Against T.
-fn places() {
-    place(&T, &FACES, 1, 1, 1);
-    place(&T, &FACES, 2, 3, 5);
-    place(&T, &FACES, 10, 10, 10);
-    place(&T, &FACES, 0, 0, 0);
+fn places(rt: &impl Print) -> io::Result<()> {
+    place(rt, &T, &FACES, 1, 1, 1)?;
+    place(rt, &T, &FACES, 2, 3, 5)?;
+    place(rt, &T, &FACES, 10, 10, 10)?;
+    place(rt, &T, &FACES, 0, 0, 0)
 }
 
 // In front of one face alone; of three alike; of three, the two worst alike and not the first; of one, on the planes of two more.
-fn worst_faces() {
-    place(&T, &FACES, 5, 4, -1);
-    place(&T, &FACES, -1, -1, -1);
-    place(&T, &FACES, -2, -2, -1);
-    place(&T, &FACES, 20, 0, 0);
+fn worst_faces(rt: &impl Print) -> io::Result<()> {
+    place(rt, &T, &FACES, 5, 4, -1)?;
+    place(rt, &T, &FACES, -1, -1, -1)?;
+    place(rt, &T, &FACES, -2, -2, -1)?;
+    place(rt, &T, &FACES, 20, 0, 0)?;
     let mut faces = [0u16; 12];
     hull::build::build(&WIDE, &mut faces);
-    place(&WIDE, &faces, 30000, 30000, -30000);
+    place(rt, &WIDE, &faces, 30000, 30000, -30000)
 }
 
 // Against tables that are no hull: one face; a face twice; a face in line, whose plane holds every place.
-fn no_hulls() {
-    place(&T, &FACES[9..], 10, 10, 10);
-    place(&T, &TWICE, 10, 10, 10);
-    place(&T, &LINE, 1, 1, 1);
-    place(&T, &LINE, 10, 10, 10);
+fn no_hulls(rt: &impl Print) -> io::Result<()> {
+    place(rt, &T, &FACES[9..], 10, 10, 10)?;
+    place(rt, &T, &TWICE, 10, 10, 10)?;
+    place(rt, &T, &LINE, 1, 1, 1)?;
+    place(rt, &T, &LINE, 10, 10, 10)
 }
 
 // In each triangle of a flat side, on the border between them and on a corner; one triangle alone, on its border and beyond it.
-fn triangles() {
-    place(&MORE, &SIX, 3, 3, 0);
-    place(&MORE, &SIX, 9, 9, 0);
-    place(&MORE, &SIX, 5, 5, 0);
-    place(&MORE, &SIX, 10, 10, 0);
-    place(&T, &FACES[..3], 0, 5, 0);
-    place(&T, &FACES[..3], 9, 9, 0);
+fn triangles(rt: &impl Print) -> io::Result<()> {
+    place(rt, &MORE, &SIX, 3, 3, 0)?;
+    place(rt, &MORE, &SIX, 9, 9, 0)?;
+    place(rt, &MORE, &SIX, 5, 5, 0)?;
+    place(rt, &MORE, &SIX, 10, 10, 0)?;
+    place(rt, &T, &FACES[..3], 0, 5, 0)?;
+    place(rt, &T, &FACES[..3], 9, 9, 0)
 }
 
 // A face in line, on an end, between the ends, past them and beside them; a face that is one point.
-fn lines() {
-    place(&T, &[1, 0, 1], 10, 0, 0);
-    place(&T, &[0, 1, 1], 7, 0, 0);
-    place(&T, &[0, 1, 0], 11, 0, 0);
-    place(&T, &[0, 1, 1], 7, 1, 0);
-    place(&T, &[3, 3, 3], 0, 0, 10);
-    place(&T, &[3, 3, 3], 0, 0, 9);
+fn lines(rt: &impl Print) -> io::Result<()> {
+    place(rt, &T, &[1, 0, 1], 10, 0, 0)?;
+    place(rt, &T, &[0, 1, 1], 7, 0, 0)?;
+    place(rt, &T, &[0, 1, 0], 11, 0, 0)?;
+    place(rt, &T, &[0, 1, 1], 7, 1, 0)?;
+    place(rt, &T, &[3, 3, 3], 0, 0, 10)?;
+    place(rt, &T, &[3, 3, 3], 0, 0, 9)
 }
 
 // Refusals 1, 2, 3, 6, 7, 17, each before the next.
-fn place_refusals() {
+fn place_refusals(rt: &impl Print) -> io::Result<()> {
     let many = [0i32; TouchList::MOST * 3 + 3];
     let long = [0u16; TouchList::MOST_FACES * 3 + 3];
-    place(&T[..11], &FACES, 1, 1, 1);
-    place(&many, &FACES, 1, 1, 1);
-    place(&FAR, &FACES[..0], 1, 1, 1);
-    place(&T, &FACES[..0], 1, 1, 30001);
-    place(&T, &FACES[..11], 1, 1, 30001);
-    place(&T, &MISSING, 1, 1, 30001);
-    place(&T, &long, 1, 1, 30001);
-    place(&T, &long[3..], 1, 1, 1);
-    place(&T, &FACES, 1, 1, 30001);
-    place(&T, &FACES, -30001, 1, 1);
-    place(&T, &FACES[..3], 30001, 0, 0);
-    place(&T[..0], &FACES, 1, 1, 1);
+    place(rt, &T[..11], &FACES, 1, 1, 1)?;
+    place(rt, &many, &FACES, 1, 1, 1)?;
+    place(rt, &FAR, &FACES[..0], 1, 1, 1)?;
+    place(rt, &T, &FACES[..0], 1, 1, 30001)?;
+    place(rt, &T, &FACES[..11], 1, 1, 30001)?;
+    place(rt, &T, &MISSING, 1, 1, 30001)?;
+    place(rt, &T, &long, 1, 1, 30001)?;
+    place(rt, &T, &long[3..], 1, 1, 1)?;
+    place(rt, &T, &FACES, 1, 1, 30001)?;
+    place(rt, &T, &FACES, -30001, 1, 1)?;
+    place(rt, &T, &FACES[..3], 30001, 0, 0)?;
+    place(rt, &T[..0], &FACES, 1, 1, 1)
 }
 
-fn main() {
-    rooms();
-    build_refusals();
-    places();
-    worst_faces();
-    no_hulls();
-    triangles();
-    lines();
-    place_refusals();
+fn main(rt: HostRuntime) -> io::Result<()> {
+    rooms(&rt)?;
+    build_refusals(&rt)?;
+    places(&rt)?;
+    worst_faces(&rt)?;
+    no_hulls(&rt)?;
+    triangles(&rt)?;
+    lines(&rt)?;
+    place_refusals(&rt)
 }

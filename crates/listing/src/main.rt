@@ -1,8 +1,15 @@
 // Lists the record on standard input.
-fn main() {
-    let mut bytes = [0u8; lister::MOST_BYTES + 1];
+#![tactic(auto)]
+
+use std::io;
+use std::io::{Read, Write};
+
+fn main(rt: HostRuntime) -> io::Result<()> {
+    let mut bytes = Vec::new(rt.alloc());
     let mut text = [0u8; lister::ROOM];
-    let n = io::read_full(0, &mut bytes);
-    let m = lister::list(&bytes[..n], &mut text);
-    io::write_all(1, &text[..m]);
+    rt.stdin()
+        .take(lister::MOST_BYTES as u64 + 1)
+        .read_to_end(&mut bytes)?;
+    let m = lister::list(&bytes, &mut text);
+    rt.stdout().write_all(&text[..m])
 }

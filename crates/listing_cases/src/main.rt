@@ -1,25 +1,25 @@
 // Lists the record of each file that an argument names, under the file's name.
-fn one(k: usize) {
-    let mut name = [0u8; 255];
-    let mut bytes = [0u8; lister::MOST_BYTES + 1];
+#![tactic(auto)]
+
+use std::io::{Read, Write};
+use std::{env, fs, io};
+
+fn one(rt: &HostRuntime, name: &str) -> io::Result<()> {
+    println!(rt; "{name}")?;
+    let Ok(file) = fs::open(rt, name) else {
+        return println!(rt; "no such file");
+    };
+    let mut bytes = Vec::new(rt.alloc());
     let mut text = [0u8; lister::ROOM];
-    let len = os::arg(k, &mut name);
-    let file = os::open_read(&name[..len]);
-    io::write_all(1, &name[..len]);
-    io::write_all(1, b"\n");
-    if file < 0 {
-        io::write_all(1, b"no such file\n");
-        return;
-    }
-    let n = io::read_full(file, &mut bytes);
-    libc::close(file);
-    let m = lister::list(&bytes[..n], &mut text);
-    io::write_all(1, &text[..m]);
+    file.take(lister::MOST_BYTES as u64 + 1)
+        .read_to_end(&mut bytes)?;
+    let m = lister::list(&bytes, &mut text);
+    rt.stdout().write_all(&text[..m])
 }
 
-fn main() {
-    let count = os::arg_count();
-    for k in 1..count {
-        one(k);
+fn main(rt: HostRuntime) -> io::Result<()> {
+    for name in env::args(&rt)?.skip(1) {
+        one(&rt, name.as_str())?;
     }
+    Ok(())
 }

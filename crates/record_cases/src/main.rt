@@ -1,7 +1,11 @@
 // Hand cases of the record calls. Each line ends in the call's refusal number, place and count, and its lent table.
+#![tactic(auto)]
+
 mod show;
 
 ghost use Rattle.std.specs.Prelude.{◌≡◌, ◌+◌, ◌<◌, ◌≤◌, length};
+
+use std::io;
 
 // T's record, and T.
 const RECORD_T: [u8; 27] = [
@@ -173,28 +177,28 @@ fn put_number(coords: &mut [i32], at: u32, x: i32)
     coords[i + 3] = x;
 }
 
-fn read_case(bytes: &[u8], list: &mut [i32]) {
+fn read_case(rt: &impl Print, bytes: &[u8], list: &mut [i32]) -> io::Result<()> {
     let answer = records::read(bytes, list);
-    show::text(b"\n  read");
-    show::numbers(records::read_numbers(answer));
-    show::list(list);
+    show::text(rt, "\n  read")?;
+    show::numbers(rt, records::read_numbers(answer))?;
+    show::list(rt, list)
 }
 
-fn write_case(coords: &[i32], buffer: &mut [u8]) {
+fn write_case(rt: &impl Print, coords: &[i32], buffer: &mut [u8]) -> io::Result<()> {
     let answer = records::write(coords, buffer);
-    show::text(b"\n  write");
-    show::numbers(records::write_numbers(answer));
-    show::bytes(buffer);
+    show::text(rt, "\n  write")?;
+    show::numbers(rt, records::write_numbers(answer))?;
+    show::bytes(rt, buffer)
 }
 
-fn copy_case(bytes: &[u8], buffer: &mut [u8]) {
+fn copy_case(rt: &impl Print, bytes: &[u8], buffer: &mut [u8]) -> io::Result<()> {
     let answer = records::copy(bytes, buffer);
-    show::text(b"\n  copy");
-    show::numbers(records::write_numbers(answer));
-    show::bytes(buffer);
+    show::text(rt, "\n  copy")?;
+    show::numbers(rt, records::write_numbers(answer))?;
+    show::bytes(rt, buffer)
 }
 
-fn record_case(row: [u32; 7]) {
+fn record_case(rt: &impl Print, row: [u32; 7]) -> io::Result<()> {
     let mut bytes = zeros();
     put_record(&mut bytes, row);
     let n = (row[2] % 65538) as usize;
@@ -202,57 +206,55 @@ fn record_case(row: [u32; 7]) {
     let l = (row[5] % 200) as usize;
     let mut buffer = blank_buffer();
     let b = (row[6] % 400) as usize;
-    show::text(b"record");
-    show::row(&row);
-    read_case(&bytes[..n], &mut list[..l]);
-    copy_case(&bytes[..n], &mut buffer[..b]);
-    show::text(b"\n");
+    show::text(rt, "record")?;
+    show::row(rt, &row)?;
+    read_case(rt, &bytes[..n], &mut list[..l])?;
+    copy_case(rt, &bytes[..n], &mut buffer[..b])?;
+    show::text(rt, "\n")
 }
 
-fn list_case(row: [u32; 3], x: i32) {
+fn list_case(rt: &impl Print, row: [u32; 3], x: i32) -> io::Result<()> {
     let mut coords = no_touches();
     put_number(&mut coords, row[1], x);
     let n = (row[0] % 200) as usize;
     let mut buffer = blank_buffer();
     let b = (row[2] % 400) as usize;
-    show::text(b"list");
-    show::row(&row);
-    show::signed(x);
-    write_case(&coords[..n], &mut buffer[..b]);
-    show::text(b"\n");
+    show::text(rt, "list")?;
+    show::row(rt, &row)?;
+    show::signed(rt, x)?;
+    write_case(rt, &coords[..n], &mut buffer[..b])?;
+    show::text(rt, "\n")
 }
 
-fn t_cases() {
+fn t_cases(rt: &impl Print) -> io::Result<()> {
     let bytes = RECORD_T;
     let coords = T;
     let mut list = [9i32; 14];
     let mut written = [9u8; 29];
     let mut copied = [9u8; 29];
-    show::text(b"T");
-    read_case(&bytes, &mut list);
-    write_case(&coords, &mut written);
-    copy_case(&bytes, &mut copied);
-    show::text(b"\n");
+    show::text(rt, "T")?;
+    read_case(rt, &bytes, &mut list)?;
+    write_case(rt, &coords, &mut written)?;
+    copy_case(rt, &bytes, &mut copied)?;
+    show::text(rt, "\n")
 }
 
-fn record_cases() {
-    let mut i: usize = 0;
-    while i < 39 {
-        record_case(record_row(i));
-        i += 1;
+fn record_cases(rt: &impl Print) -> io::Result<()> {
+    for i in 0..39 {
+        record_case(rt, record_row(i))?;
     }
+    Ok(())
 }
 
-fn list_cases() {
-    let mut i: usize = 0;
-    while i < 20 {
-        list_case(list_row(i), list_number(i));
-        i += 1;
+fn list_cases(rt: &impl Print) -> io::Result<()> {
+    for i in 0..20 {
+        list_case(rt, list_row(i), list_number(i))?;
     }
+    Ok(())
 }
 
-fn main() {
-    t_cases();
-    record_cases();
-    list_cases();
+fn main(rt: HostRuntime) -> io::Result<()> {
+    t_cases(&rt)?;
+    record_cases(&rt)?;
+    list_cases(&rt)
 }

@@ -1,11 +1,11 @@
 // Printing to standard output, each number after a space.
 ghost use Rattle.std.specs.Prelude.{◌≤◌};
 
-use libc::STDOUT_FILENO;
 use records::Numbers;
+use std::io;
 
-pub fn text(words: &[u8]) {
-    io::write_all(STDOUT_FILENO, words);
+pub fn text(rt: &impl Print, words: &str) -> io::Result<()> {
+    rt.print(words)
 }
 
 fn wide8(x: u8) -> u64 {
@@ -20,40 +20,36 @@ fn wide32(x: u32) -> u64 {
     x as u64
 }
 
-pub fn number(n: u64) {
-    text(b" ");
-    io::print_decimal(STDOUT_FILENO, n);
+pub fn number(rt: &impl Print, n: u64) -> io::Result<()> {
+    print!(rt; " {n}")
 }
 
-fn byte(b: u8) {
-    text(b" ");
-    io::print_hex(STDOUT_FILENO, wide8(b), 2);
+fn byte(rt: &impl Print, b: u8) -> io::Result<()> {
+    print!(rt; " {:02x}", wide8(b))
 }
 
-pub fn signed(x: i32) {
+pub fn signed(rt: &impl Print, x: i32) -> io::Result<()> {
     if 0 <= x {
-        number(x as u64);
+        number(rt, x as u64)
     } else {
-        text(b" -");
         let y = -(x as i64);
-        io::print_decimal(STDOUT_FILENO, y as u64);
+        print!(rt; " -{}", y as u64)
     }
 }
 
-pub fn numbers(n: Numbers) {
+pub fn numbers(rt: &impl Print, n: Numbers) -> io::Result<()> {
     let place = n.place;
-    number(wide8(n.number));
-    number(wide16(place.0));
-    number(n.count as u64);
-    text(b", changed");
+    number(rt, wide8(n.number))?;
+    number(rt, wide16(place.0))?;
+    number(rt, n.count as u64)?;
+    text(rt, ", changed")
 }
 
-pub fn row(r: &[u32]) {
-    let mut i: usize = 0;
-    while i < r.len() {
-        number(wide32(r[i]));
-        i += 1;
+pub fn row(rt: &impl Print, r: &[u32]) -> io::Result<()> {
+    for x in r {
+        number(rt, wide32(*x))?;
     }
+    Ok(())
 }
 
 // How many numbers of a table that was all 9 are not.
@@ -92,24 +88,20 @@ fn shown(length: usize) -> usize
 }
 
 // The count of changed numbers, and the first.
-pub fn list(list: &[i32]) {
-    number(changed_list(list));
-    text(b":");
-    let n = shown(list.len());
-    let mut i: usize = 0;
-    while i < n {
-        signed(list[i]);
-        i += 1;
+pub fn list(rt: &impl Print, list: &[i32]) -> io::Result<()> {
+    number(rt, changed_list(list))?;
+    text(rt, ":")?;
+    for x in &list[..shown(list.len())] {
+        signed(rt, *x)?;
     }
+    Ok(())
 }
 
-pub fn bytes(bytes: &[u8]) {
-    number(changed_bytes(bytes));
-    text(b":");
-    let n = shown(bytes.len());
-    let mut i: usize = 0;
-    while i < n {
-        byte(bytes[i]);
-        i += 1;
+pub fn bytes(rt: &impl Print, bytes: &[u8]) -> io::Result<()> {
+    number(rt, changed_bytes(bytes))?;
+    text(rt, ":")?;
+    for b in &bytes[..shown(bytes.len())] {
+        byte(rt, *b)?;
     }
+    Ok(())
 }

@@ -1,4 +1,4 @@
-use Rattle.std.proofs.Common.{arith, rules}
+use Rattle.std.proofs.Common.{arith}
 use lib.Dec.{lit≤}
 use Rattle.records.specs.Record.{AreBytes}
 use Rattle.records.proofs.CopyLaws.{copy_gives, copy_refused}

@@ -1,12 +1,19 @@
 use Rattle.std.proofs.Common.{[], ◌∙◌, arith, rules}
 use Rattle.laws.proofs.Members.{get_or_in}
-use Rattle.border.proofs.MarkLaws.{face_end, all_marked, all_fresh}
+use Rattle.border.proofs.MarkLaws.{face_turn, face_end, all_marked, all_fresh}
 use Rattle.border.proofs.marks.mark_all.Goals as goal
 
 pub mark_sides-requires : goal.mark_sides-requires
 mark_sides-requires c =
     let h = c.requires in
     (record { few = h.0.few; room = omega (arith, c.loop-i.invariant.0, h.0.room) }, h.3 _ (get_or_in c.args.seen.now c.loop-i.i [] (search rules)), h.2)
+
+pub loop-i-preserved : goal.loop-i-preserved
+loop-i-preserved c =
+    let a = c.args in
+    let l = c.loop-i in
+    let q = c.mark_sides in
+    (q.auto.marks ∙ l.invariant.0, l.invariant.1 ∙ face_turn a.w a.k.0 a.seen.now l.i l.marks (search rules) ∙ rw q.ensures)
 
 pub returns : goal.returns
 returns c =

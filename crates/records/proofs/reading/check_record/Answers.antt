@@ -1,8 +1,8 @@
-use Rattle.std.proofs.Common.{ℕ, List, ◌≡◌, ◌-◌, ◌%◌, ◌/◌, sym, ap, ◌∙◌, arith}
+use Rattle.std.proofs.Common.{ℕ, List, ◌-◌, ◌%◌, ◌/◌, sym, ap, ◌∙◌, arith}
 use Rattle.std.proofs.Math.ListN.{length, drop, length-drop}
 use lib.Seq.{take_all}
 use Rattle.laws.specs.Lists.{lay}
-use Rattle.records.specs.Record.{count_in, touches_of}
+use Rattle.records.specs.Record.{touches_of}
 use Rattle.records.proofs.BodyLaws.{length_touches}
 use Rattle.records.proofs.CheckLaws.{is_short, is_miscounted, is_other, is_uneven, is_many, is_touches}
 use Rattle.records.proofs.ReadLaws.{opened_none, opened_some}

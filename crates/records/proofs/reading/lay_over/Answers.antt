@@ -1,4 +1,4 @@
-use Rattle.std.proofs.Common.{pos, arith, rules}
+use Rattle.std.proofs.Common.{pos, rules}
 use lib.ListN.{get_or}
 use mir.Syntax.{w32}
 use mir.Val.{SFits}

@@ -1,5 +1,5 @@
 -- The loop's invariant: the first i of the new numbers stand at the front of the list.
-use Rattle.std.proofs.Common.{length, ◌-◌, ◌≡◌, ◌≤◌}
+use Rattle.std.proofs.Common.{length, ◌-◌, ◌≤◌}
 use Rattle.std.proofs.Math.ListN.{take}
 use Rattle.laws.specs.Lists.{Laid}
 use Rattle.records.proofs.reading.lay_over.Given as goal

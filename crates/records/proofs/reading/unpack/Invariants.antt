@@ -1,5 +1,5 @@
 -- The loop's invariant: the first i of the body's coordinates stand at the front of the room.
-use Rattle.std.proofs.Common.{length, ◌-◌, ◌≡◌, ◌≤◌}
+use Rattle.std.proofs.Common.{◌-◌, ◌≤◌}
 use Rattle.std.proofs.Math.ListN.{take}
 use Rattle.laws.specs.Lists.{Laid}
 use Rattle.records.specs.Record.{touches_of}
