@@ -1,4 +1,4 @@
-use Rattle.std.proofs.Common.{[], ◌≤◌, length, get_or, rules}
+use Rattle.std.proofs.Common.{[], get_or, rules}
 use Rattle.laws.proofs.Members.{get_or_in}
 use Rattle.touches.specs.Touches.{touch}
 use Rattle.hull.proofs.WholeLaws.{planed_near, planed_number}

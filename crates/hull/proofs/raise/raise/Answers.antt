@@ -1,5 +1,4 @@
 use Rattle.std.proofs.Common.{refl, ◌∙◌, arith}
-use Rattle.rules.proofs.Theorems.{accepted_few}
 use Rattle.border.proofs.MarkLaws.{fresh_later}
 use Rattle.hull.proofs.WholeLaws.{planed_none}
 use Rattle.hull.proofs.RaiseLaws.{known_start, tables_kept, start_faces_lem, start_room, taken_start, taken_next, begun_first, begun_next, begun_within, taken_ready, taken_room, step_room, taken_step}

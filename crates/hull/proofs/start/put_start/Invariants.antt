@@ -1,6 +1,5 @@
-use mathlib.Core.Path.{◌≡◌}
 use Prim.Native.Nat.{◌≤◌, ◌-◌}
-use lib.ListN.{length, take}
+use lib.ListN.{take}
 use Rattle.laws.specs.Lists.{Laid}
 use Rattle.rules.specs.Start.{start_faces}
 use Rattle.hull.proofs.start.put_start.Given as goal
