@@ -23,7 +23,7 @@ use Rattle.rules.specs.Building.{volume}
 use Rattle.points.specs.Sizes.{Number}
 use Rattle.points.proofs.NumberLaws.{back}
 
-abbrev so_far : Places → Point → List Face → ℕ → ℤ
+abbrev pub so_far : Places → Point → List Face → ℕ → ℤ
 so_far p q l i = sum_z (λ f. face_vol p f q) (take i l)
 
 -- n is the bits of the sum over the first i faces

@@ -14,7 +14,7 @@ use crate::whole::read;
 use points::touch::touch;
 use touches::{Checked, Refusal, TouchNo};
 
-#[derive(Drop)]
+#[derive(Clone, Copy)]
 pub enum Built {
     Hull(u16, i64),
     Refused(Refusal),

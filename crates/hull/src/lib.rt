@@ -1,4 +1,6 @@
 // Hulls over a touch list: V, building and placing.
+#![tactic(auto)]
+
 pub mod build;
 mod doubles;
 mod face;

@@ -12,7 +12,7 @@ use crate::face::{face_holds, face_volume};
 use touches::{Checked, FaceNo, Point, Refusal};
 
 // Outside comes with the worst face, the one with the least V, and minus that V.
-#[derive(Drop)]
+#[derive(Clone, Copy)]
 pub enum Placed {
     Outside(FaceNo, i64),
     On(FaceNo),
@@ -21,14 +21,14 @@ pub enum Placed {
 }
 
 // The worst face so far and its V: 0 while the place is in front of none.
-#[derive(Drop)]
+#[derive(Clone, Copy)]
 struct Worst {
     face: FaceNo,
     v: i64,
 }
 
 // The first face of a kind.
-#[derive(Drop)]
+#[derive(Clone, Copy)]
 enum First {
     Nowhere,
     At(FaceNo),

@@ -14,20 +14,20 @@ use touches::{Point, TouchNo};
 const START: [[usize; 3]; 4] = [[0, 1, 2], [0, 3, 1], [1, 3, 2], [2, 3, 0]];
 
 // What is looked for: a touch apart from P, off the line of P and Q, or off the plane of P, Q and R.
-#[derive(Drop)]
+#[derive(Clone, Copy)]
 enum Sought {
     Apart,
     OffLine(TouchNo),
     OffPlane(TouchNo, TouchNo),
 }
 
-#[derive(Drop)]
+#[derive(Clone, Copy)]
 enum Found {
     Nowhere,
     At(TouchNo),
 }
 
-#[derive(Drop)]
+#[derive(Clone, Copy)]
 pub(crate) struct Start {
     pub(crate) p: TouchNo,
     pub(crate) q: TouchNo,
@@ -35,7 +35,7 @@ pub(crate) struct Start {
     pub(crate) s: TouchNo,
 }
 
-#[derive(Drop)]
+#[derive(Clone, Copy)]
 pub(crate) enum Started {
     Flat,
     From(Start),

@@ -13,7 +13,7 @@ use points::touch::touch;
 use touches::TouchNo;
 
 // How many faces of a table are kept, and how many are visible.
-#[derive(Drop)]
+#[derive(Clone, Copy)]
 struct Parted {
     kept: usize,
     seen: usize,
