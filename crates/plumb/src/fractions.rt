@@ -5,7 +5,7 @@ ghost use Rattle.laws.specs.Fractions.{compared, Parts};
 ghost use Rattle.volume.specs.Volume.{most_volume, most_normal};
 ghost use Rattle.plumb.specs.Fractions.{Ranged, ratio};
 
-#[derive(Drop)]
+#[derive(Clone, Copy)]
 pub(crate) struct Fraction {
     pub(crate) top: i64,
     pub(crate) bottom: i64,

@@ -1,4 +1,6 @@
 // The plumb line: the heights at which a line dropped at a whole x and y meets the hull of a touch list.
+#![tactic(auto)]
+
 mod bounds;
 mod fractions;
 
