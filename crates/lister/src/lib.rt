@@ -1,4 +1,6 @@
 // The listing of a record: the hull or the refusal, as text.
+#![tactic(auto)]
+
 ghost use Rattle.std.specs.Prelude.{◌≡◌, [], ◌∷◌, ◌++◌, ◌+◌, ◌*◌, ◌<◌, ◌≤◌, length, take};
 ghost use Rattle.laws.specs.Lists.{Laid};
 ghost use Rattle.touches.specs.Touches.{plain};
