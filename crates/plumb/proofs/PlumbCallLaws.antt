@@ -12,7 +12,7 @@ use Rattle.touches.specs.declared.FaceNo.{FaceNo}
 use Rattle.touches.specs.Limits.{in_range}
 use Rattle.touches.specs.Touches.{touch, touch_count, face_no, Sound}
 use Rattle.rules.specs.Faces.{Face}
-use Rattle.rules.specs.Placing.{on, lies}
+use Rattle.rules.specs.Placing.{lies}
 use Rattle.rules.specs.Plumb.{Fraction, Plumb, misses, touches, through, plumb}
 use Rattle.rules.specs.Heights.{over, Below, Equal, NoneRefuses}
 use Rattle.rules.proofs.PlumbLaws.{lowest, highest, hull_reading, line_through, line_touches, line_misses, misses_outside}

@@ -3,7 +3,7 @@ use Rattle.touches.specs.Touches.{touch}
 use Rattle.table.specs.Table.{room}
 use Rattle.hull.specs.Build.{built_from}
 use Rattle.hull.specs.declared.build.Built.TheVariants.{Refused}
-use Rattle.hull.proofs.RaiseLaws.{hull_flat, begun}
+use Rattle.hull.proofs.RaiseLaws.{hull_flat}
 use Rattle.hull.proofs.build.build_checked.Goals as goal
 
 pub returns-in-Flat : goal.returns-in-Flat
@@ -11,6 +11,3 @@ returns-in-Flat c =
     let cs = c.args.coords.now in
     let e = hull_flat cs c.requires.1 c.in-Flat.ensures in
     record { answer = ap Refused c.because.ensures ∙ sym (ap (built_from (touch cs) (room c.args.faces.now)) e); table = refl }
-
-pub build_from-requires : goal.build_from-requires
-build_from-requires c = begun c.args.coords.now c.requires.1 c.requires.0 c.in-From.s c.in-From.ensures

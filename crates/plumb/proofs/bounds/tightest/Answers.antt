@@ -1,4 +1,4 @@
-use mathlib.Core.Path.{◌≡◌, sym, ap, ap₂, subst, ◌∙◌}
+use mathlib.Core.Path.{sym, ap, ap₂, subst, ◌∙◌}
 use Prim.Native.Nat.{◌<◌}
 use native.Mathlib.Omega.{arith}
 use lib.IntN.{ℤ}
@@ -9,7 +9,7 @@ use Rattle.touches.specs.Touches.{touch}
 use Rattle.rules.specs.Faces.{Face}
 use Rattle.rules.specs.Plumb.{unbounded, bounds}
 use Rattle.rules.specs.Demands.{FaceOf}
-use Rattle.table.specs.Table.{room, face_at, faces_in}
+use Rattle.table.specs.Table.{room, faces_in}
 use Rattle.table.proofs.UsableLaws.{usable_few, usable_face}
 use Rattle.points.specs.Whole.{plane_on, PlaneNear}
 use Rattle.points.proofs.PlaneLaws.{plane_near}
