@@ -1,4 +1,6 @@
 // What C links: numbers, and slices as a pointer and a length.
+#![tactic(auto)]
+
 ghost use Rattle.std.specs.Prelude.{◌≡◌, ◌≤◌, length};
 ghost use Rattle.planes.specs.Planes.{planed, planed_refusal, planed_plane, plane_reading, reading_refusal, reading_value};
 ghost use Rattle.hull.specs.Build.{hull_of, built, table_after};

@@ -1,4 +1,6 @@
 // Each answer taken apart into numbers, for callers in other languages.
+#![tactic(auto)]
+
 ghost use Rattle.std.specs.Prelude.{◌≡◌, pos};
 ghost use Rattle.planes.specs.Planes.{planed_refusal, planed_plane, reading_refusal, reading_value};
 ghost use Rattle.numbers.specs.Numbers.{numbers, built_numbers, placed_numbers, plane_numbers, plumbed_numbers, plumbed_heights, one};
