@@ -19,7 +19,7 @@ use hull::build::Built;
 use touches::{Point, Refusal};
 
 // The line misses, touches at a height, or enters at the upper height and leaves at the lower one.
-#[derive(Drop)]
+#[derive(Clone, Copy)]
 pub enum Plumbed {
     Misses,
     Touches(f64),
