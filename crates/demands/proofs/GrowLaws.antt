@@ -21,7 +21,7 @@ use Rattle.touches.proofs.SoundLaws.{near_place, touch_near}
 use Rattle.touches.proofs.JoinLaws.{join_count, join_second}
 use Rattle.rules.specs.Faces.{Face}
 use Rattle.rules.specs.Building.{volume}
-use Rattle.rules.specs.Placing.{outside, on, inside, lies}
+use Rattle.rules.specs.Placing.{outside, lies}
 use Rattle.rules.specs.Demands.{OnOrInside, Growth}
 use Rattle.rules.proofs.Theorems.{flat_exact, one_result, inside_stays, lists_grow, lists_rise, lists_same}
 use Rattle.table.specs.Table.{lent, faces_in, usable}

@@ -8,7 +8,6 @@ use native.Mathlib.Omega.{arith}
 use lib.IntN.{ℤ}
 use lib.ListN.{length}
 use Rattle.touches.specs.declared.Refusal.{Refusal}
-use Rattle.touches.specs.declared.TouchList.{TouchList}
 use Rattle.touches.specs.declared.Checked.{Checked}
 use Rattle.touches.specs.declared.Checked.TheVariants.{Accepted, Refused}
 use Rattle.touches.specs.Limits.{most_touches}

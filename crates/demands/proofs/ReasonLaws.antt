@@ -1,5 +1,4 @@
 -- The calls' tests say whether the reasons of refusals 6, 7 and 8 hold.
-use mathlib.Core.Path.{◌≡◌}
 use mathlib.Core.Bool.{not, ◌&&◌}
 use mathlib.Core.List.{List}
 use Prim.Native.Nat.{ℕ, ◌-◌}

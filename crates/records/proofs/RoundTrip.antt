@@ -1,4 +1,4 @@
--- Records round_trip both ways, for every version.
+-- Records round-trip both ways, for every version.
 use mathlib.Core.Path.{◌≡◌, sym, ◌∙◌, ap}
 use mathlib.Core.List.{List}
 use Prim.Native.Nat.{ℕ, ◌+◌, ◌*◌, ◌≤◌}

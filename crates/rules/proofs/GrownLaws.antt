@@ -12,9 +12,8 @@ use Rattle.laws.specs.Lists.{In, upward}
 use Rattle.laws.proofs.Firsts.{in_upward, upward_in}
 use Rattle.touches.specs.declared.Point.{Point}
 use Rattle.rules.specs.Faces.{Face, Places, face_vol, visible}
-use Rattle.rules.specs.Start.{start, corners}
+use Rattle.rules.specs.Start.{start}
 use Rattle.rules.specs.Building.{build, hull, volume}
-use Rattle.rules.specs.Placing.{on, inside}
 use Rattle.rules.specs.Demands.{OnOrInside, Outside, Surface, Growth}
 use Rattle.rules.specs.Alike.{Alike}
 use Rattle.rules.proofs.FaceLaws.{seen→, →seen, →unseen, face_agree}

@@ -9,7 +9,6 @@ use lib.Signed.{◌<ℤ◌}
 use Rattle.laws.specs.Lists.{In, upward}
 use Rattle.laws.proofs.Firsts.{in_upward, upward_in}
 use Rattle.rules.specs.Faces.{Face, Places}
-use Rattle.rules.specs.Start.{corners}
 use Rattle.rules.specs.Building.{others, hull, volume}
 use Rattle.rules.specs.Demands.{Surface}
 use Rattle.rules.proofs.Hull.{Hull, hull_closed, off_line, hull_corners}

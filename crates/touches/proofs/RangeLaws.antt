@@ -1,4 +1,4 @@
--- The two tests of `in_range`, as the code reads the coordinate back from its bits (y), against `inRange` of the coordinate (z).
+-- The two tests of `in_range`, as the code reads the coordinate back from its bits (y), against `in_range` of the coordinate (z).
 -- Assumes nothing.
 use mathlib.Core.Path.{◌≡◌}
 use mathlib.Core.Bool.{true, false}

@@ -2,7 +2,7 @@
 use mathlib.Core.Path.{◌≡◌}
 use mathlib.Core.List.{[], ◌∷◌}
 use Prim.Native.Nat.{◌*◌}
-use lib.IntN.{ℤ, neg_ℤ, ◌-ℤ◌, ◌*ℤ◌}
+use lib.IntN.{neg_ℤ, ◌-ℤ◌, ◌*ℤ◌}
 use Rattle.laws.specs.Numbers.{Within}
 use Rattle.laws.proofs.Ring.{neg, ◌:-◌, ring}
 use Rattle.laws.proofs.WithinLaws.{within_add, within_sub, within_mul}

@@ -1,1 +1,3 @@
+#![tactic(auto)]
+
 // V, planes and the four-corner rule over points: definitions and laws, no code.
