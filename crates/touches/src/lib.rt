@@ -114,7 +114,7 @@ enum Stray {
     At(TouchNo),
 }
 
-// A face of a table as touch numbers: a table of plain numbers can be lent, one of structs is not covered by the prover.
+// A face of a table as touch numbers: the tables that building works in hold plain numbers.
 pub fn corners(f: [u16; 3]) -> [TouchNo; 3]
     ensures { plain result ≡ f }
 {
