@@ -11,12 +11,10 @@ use lib.IntN.{ℤ, pos}
 use lib.ListN.{length, get_or}
 use Rattle.laws.specs.Numbers.{Within}
 use Rattle.touches.specs.declared.TouchNo.{TouchNo}
-use Rattle.touches.specs.declared.Stray.{Stray}
-use Rattle.touches.specs.declared.Stray.TheVariants.{Nowhere, At}
-use Rattle.touches.specs.declared.Checked.TheVariants.{Refused}
+use Rattle.std.specs.Prelude.{Option, None, Some, Err}
+use Rattle.touches.specs.declared.refusal.Refusal.TheVariants.{CoordinatesNotInThrees, TooManyTouches, CoordinateOutOfRange}
 use Rattle.touches.specs.Limits.{most_touches, reach, in_range}
-use Rattle.touches.specs.Touches.{touch, touch_count, touch_no, refusal, Near, Sound, FirstStray}
-use Rattle.touches.specs.Refusals.{coordinates_not_in_threes, too_many_touches, coordinate_out_of_range, because}
+use Rattle.touches.specs.Touches.{touch, touch_no, Near, Sound, FirstStray}
 use Rattle.touches.specs.Check.{pick, stray_from, of_stray, checked}
 use Rattle.touches.proofs.SoundLaws.{range_within, within_range, no_stray}
 
@@ -29,12 +27,12 @@ record FirstOut (i : ℕ) (cs : List ℤ) (k : TouchNo) : Type 0 where
   out : in_range (get_or cs at (pos 0)) ≡ false
   earlier : (m : ℕ) → m < at → in_range (get_or cs m (pos 0)) ≡ true
 
-first_out : (i : ℕ) (cs : List ℤ) (k : TouchNo) → stray_from i cs ≡ At k → FirstOut i cs k
+first_out : (i : ℕ) (cs : List ℤ) (k : TouchNo) → stray_from i cs ≡ Some k → FirstOut i cs k
 unfolding stray_from
 first_out i [] k e = let z : ◌≡◌ {A = ℕ} 0 1 = cc in absurd (omega arith)
 first_out i (x ∷ cs) k e = go (λ f. first_out (suc i) cs k f) (in_range x) refl e
   where
-    go : (stray_from (suc i) cs ≡ At k → FirstOut (suc i) cs k) → (b : Bool) → in_range x ≡ b → pick b (stray_from (suc i) cs) (At (touch_no (i / 3))) ≡ At k → FirstOut i (x ∷ cs) k
+    go : (stray_from (suc i) cs ≡ Some k → FirstOut (suc i) cs k) → (b : Bool) → in_range x ≡ b → pick b (stray_from (suc i) cs) (Some (touch_no (i / 3))) ≡ Some k → FirstOut i (x ∷ cs) k
     go later false f g =
         let t : touch_no (i / 3) ≡ k = cc in
         let z : i + 0 ≡ i = omega arith in
@@ -62,7 +60,7 @@ of_touch cs j h = go (j % 3) (omega arith) (omega arith)
     go (suc (suc zero)) e l = at h.z (omega arith)
     go (suc (suc (suc m))) e l = absurd (omega arith)
 
-stray_first : (cs : List ℤ) (k : TouchNo) → length cs % 3 ≡ 0 → stray_from 0 cs ≡ At k → FirstStray cs k.0
+stray_first : (cs : List ℤ) (k : TouchNo) → length cs % 3 ≡ 0 → stray_from 0 cs ≡ Some k → FirstStray cs k.0
 stray_first cs k w e = subst (FirstStray cs) (sym place) (record { among = omega (arith, o.among); far = far; earlier = earlier })
   where
     o : FirstOut 0 cs k
@@ -93,20 +91,20 @@ one_stray {cs} {k} {l} u v = go (dec_le k l) (dec_le l k)
 
 -- ---- the check
 module _ (cs : List ℤ) where
-  pub check_ragged : length cs % 3 ≢ 0 → checked cs ≡ Refused (because coordinates_not_in_threes)
+  pub check_ragged : length cs % 3 ≢ 0 → checked cs ≡ Err CoordinatesNotInThrees
   check_ragged d = simp (ne_eqb (length cs % 3) 0 d)
 
   module _ (w : length cs % 3 ≡ 0) where
-    pub check_many : most_touches * 3 < length cs → checked cs ≡ Refused (because too_many_touches)
+    pub check_many : most_touches * 3 < length cs → checked cs ≡ Err TooManyTouches
     check_many l = simp (eq-eqb (length cs % 3) 0 w, lt-leb (length cs) (most_touches * 3) l)
 
     -- a list of at most 64 whole touches has all in range, or is refused at the first that is not
-    pub check_stray : length cs ≤ most_touches * 3 → Sound cs ⊎ ((k : ℕ) × FirstStray cs k × (checked cs ≡ Refused (refusal coordinate_out_of_range k)))
+    pub check_stray : length cs ≤ most_touches * 3 → Sound cs ⊎ ((k : ℕ) × FirstStray cs k × (checked cs ≡ Err (CoordinateOutOfRange (touch_no k))))
     check_stray f = go (stray_from 0 cs) refl
       where
-        late : checked cs ≡ of_stray (touch_count cs) (stray_from 0 cs)
+        late : checked cs ≡ of_stray cs (stray_from 0 cs)
         late = simp (eq-eqb (length cs % 3) 0 w, le-leb (length cs) (most_touches * 3) f)
 
-        go : (s : Stray) → stray_from 0 cs ≡ s → Sound cs ⊎ ((k : ℕ) × FirstStray cs k × (checked cs ≡ Refused (refusal coordinate_out_of_range k)))
-        go Nowhere e = inl (record { whole = w; few = f; near = no_stray 0 cs e })
-        go (At k) e = inr (k.0, stray_first cs k w e, late ∙ ap (of_stray (touch_count cs)) e)
+        go : (s : Option TouchNo) → stray_from 0 cs ≡ s → Sound cs ⊎ ((k : ℕ) × FirstStray cs k × (checked cs ≡ Err (CoordinateOutOfRange (touch_no k))))
+        go None e = inl (record { whole = w; few = f; near = no_stray 0 cs e })
+        go (Some k) e = inr (k.0, stray_first cs k w e, late ∙ ap (of_stray cs) e)

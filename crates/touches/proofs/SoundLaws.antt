@@ -4,22 +4,23 @@ use mathlib.Core.Bool.{Bool, true, false, ◌&&◌}
 use mathlib.Core.List.{List, [], ◌∷◌}
 use Prim.Native.Nat.{ℕ, zero, suc, ◌+◌, ◌-◌, ◌*◌, ◌/◌, ◌%◌, ◌<◌, ◌≤◌}
 use native.Mathlib.Omega.{arith}
-use lib.Dec.{leb, eqb, leb→le, le→leb}
+use lib.Dec.{leb, eqb, leb→le, le→leb, lit<}
 use lib.IntN.{ℤ, pos, negsuc}
 use lib.ListN.{length, get_or}
 use borrow.Author.Tests.{eq-eqb, le-leb, eqb-true, leb-true}
+use mir.Syntax.{w64}
+use mir.Val.{to_z, of_z}
+use Rattle.std.proofs.lemmas.Int.{to_z-of_z}
 use Rattle.laws.specs.Numbers.{Within}
+use Rattle.laws.proofs.WithinLaws.{within_fits}
 use Rattle.laws.proofs.Tests.{is_true, T_of, and_both, both_and}
 use Rattle.touches.specs.Limits.{most_touches, reach, in_range, place_in_range}
-use Rattle.touches.specs.Touches.{touch_count, touch_no, refusal, Near, Sound, touch}
-use Rattle.touches.specs.Refusals.{coordinates_not_in_threes, too_many_touches, because}
+use Rattle.touches.specs.Touches.{touch_count, touch_no, Near, Sound, touch}
 use Rattle.touches.specs.Check.{pick, stray_from, of_stray, checked}
 use Rattle.touches.specs.declared.Point.{Point}
-use Rattle.touches.specs.declared.TouchList.{TouchList}
-use Rattle.touches.specs.declared.Stray.{Stray}
-use Rattle.touches.specs.declared.Stray.TheVariants.{Nowhere, At}
-use Rattle.touches.specs.declared.Checked.{Checked}
-use Rattle.touches.specs.declared.Checked.TheVariants.{Accepted, Refused}
+use Rattle.touches.specs.declared.TouchNo.{TouchNo}
+use Rattle.std.specs.Prelude.{Option, None, Some, Ok, Err}
+use Rattle.touches.specs.declared.refusal.Refusal.TheVariants.{CoordinatesNotInThrees, TooManyTouches}
 
 -- ---- one coordinate
 pub range_within : (z : ℤ) → in_range z ≡ true → Within reach z
@@ -48,45 +49,49 @@ near_place q s =
     let two = both_and (in_range q.x) (in_range q.y) (T_of (within_range q.x s.x)) (T_of (within_range q.y s.y)) in
     is_true (place_in_range q) (both_and (in_range q.x && in_range q.y) (in_range q.z) two (T_of (within_range q.z s.z)))
 
+-- the three numbers as the machine holds them
+pub near_held : (q : Point) → Near q → Near (record { x = to_z w64 (of_z w64 q.x); y = to_z w64 (of_z w64 q.y); z = to_z w64 (of_z w64 q.z) })
+near_held q s = record { x = held s.x; y = held s.y; z = held s.z }
+  where
+    held : {z : ℤ} → Within reach z → Within reach (to_z w64 (of_z w64 z))
+    held {z} h = rw (to_z-of_z w64 z (within_fits w64 (lit< tt) h)) h
+
 -- ---- the whole list
-pub no_stray : (i : ℕ) (cs : List ℤ) → stray_from i cs ≡ Nowhere → (k : ℕ) → k < length cs → Within reach (get_or cs k (pos 0))
+pub no_stray : (i : ℕ) (cs : List ℤ) → stray_from i cs ≡ None → (k : ℕ) → k < length cs → Within reach (get_or cs k (pos 0))
 unfolding stray_from
 no_stray i [] e k h = absurd (omega arith)
 no_stray i (x ∷ cs) e k h = go (λ f j. no_stray (suc i) cs f j) (in_range x) refl e k h
   where
-    go : (stray_from (suc i) cs ≡ Nowhere → (j : ℕ) → j < length cs → Within reach (get_or cs j (pos 0))) → (b : Bool) → in_range x ≡ b → pick b (stray_from (suc i) cs) (At (touch_no (i / 3))) ≡ Nowhere → (k : ℕ) → k < suc (length cs) → Within reach (get_or (x ∷ cs) k (pos 0))
+    go : (stray_from (suc i) cs ≡ None → (j : ℕ) → j < length cs → Within reach (get_or cs j (pos 0))) → (b : Bool) → in_range x ≡ b → pick b (stray_from (suc i) cs) (Some (touch_no (i / 3))) ≡ None → (k : ℕ) → k < suc (length cs) → Within reach (get_or (x ∷ cs) k (pos 0))
     go n true r e zero h = range_within x r
     go n true r e (suc k) h = n e k (omega arith)
     go n false r e k h = let z : ◌≡◌ {A = ℕ} 0 1 = cc in absurd (omega arith)
 
-stray_nowhere : (i : ℕ) (cs : List ℤ) → ((k : ℕ) → k < length cs → Within reach (get_or cs k (pos 0))) → stray_from i cs ≡ Nowhere
+stray_nowhere : (i : ℕ) (cs : List ℤ) → ((k : ℕ) → k < length cs → Within reach (get_or cs k (pos 0))) → stray_from i cs ≡ None
 unfolding stray_from
 stray_nowhere i [] h = refl
-stray_nowhere i (x ∷ cs) h = ap (λ (b : Bool). pick b (stray_from (suc i) cs) (At (touch_no (i / 3)))) (within_range x (h 0 (omega arith))) ∙ stray_nowhere (suc i) cs (λ k l. h (suc k) (omega arith))
+stray_nowhere i (x ∷ cs) h = ap (λ (b : Bool). pick b (stray_from (suc i) cs) (Some (touch_no (i / 3)))) (within_range x (h 0 (omega arith))) ∙ stray_nowhere (suc i) cs (λ k l. h (suc k) (omega arith))
 
-pub record Passed (cs : List ℤ) (l : TouchList) : Type 0 where
+pub record Passed (cs l : List ℤ) : Type 0 where
   pub sound : Sound cs
-  pub count : l.count ≡ touch_count cs
+  pub same : l ≡ cs
 
-pub accepted_sound : (cs : List ℤ) (l : TouchList) → checked cs ≡ Accepted l → Passed cs l
+pub accepted_sound : (cs l : List ℤ) → checked cs ≡ Ok l → Passed cs l
 accepted_sound cs l e = whole (eqb (length cs % 3) 0) refl e
   where
-    clash : {r : Checked} → r ≡ Accepted l → (a : ℕ) → r ≡ Refused (refusal a 0) → Passed cs l
-    clash p a q = let z : ◌≡◌ {A = ℕ} 0 1 = cc in absurd (omega arith)
+    stray : length cs % 3 ≡ 0 → length cs ≤ most_touches * 3 → (s : Option TouchNo) → stray_from 0 cs ≡ s → of_stray cs s ≡ Ok l → Passed cs l
+    stray w f None g e = record { sound = record { whole = w; few = f; near = no_stray 0 cs g }; same = cc }
+    stray w f (Some k) g e = cc
 
-    stray : length cs % 3 ≡ 0 → length cs ≤ most_touches * 3 → (s : Stray) → stray_from 0 cs ≡ s → of_stray (touch_count cs) s ≡ Accepted l → Passed cs l
-    stray w f Nowhere g e = record { sound = record { whole = w; few = f; near = no_stray 0 cs g }; count = cc }
-    stray w f (At k) g e = let z : ◌≡◌ {A = ℕ} 0 1 = cc in absurd (omega arith)
-
-    few : length cs % 3 ≡ 0 → (b : Bool) → leb (length cs) (most_touches * 3) ≡ b → pick b (of_stray (touch_count cs) (stray_from 0 cs)) (Refused (because too_many_touches)) ≡ Accepted l → Passed cs l
+    few : length cs % 3 ≡ 0 → (b : Bool) → leb (length cs) (most_touches * 3) ≡ b → pick b (of_stray cs (stray_from 0 cs)) (Err TooManyTouches) ≡ Ok l → Passed cs l
     few w true g e = stray w (leb-true (length cs) (most_touches * 3) g) (stray_from 0 cs) refl e
-    few w false g e = clash e 2 refl
+    few w false g e = cc
 
-    whole : (b : Bool) → eqb (length cs % 3) 0 ≡ b → pick b (pick (leb (length cs) (most_touches * 3)) (of_stray (touch_count cs) (stray_from 0 cs)) (Refused (because too_many_touches))) (Refused (because coordinates_not_in_threes)) ≡ Accepted l → Passed cs l
+    whole : (b : Bool) → eqb (length cs % 3) 0 ≡ b → pick b (pick (leb (length cs) (most_touches * 3)) (of_stray cs (stray_from 0 cs)) (Err TooManyTouches)) (Err CoordinatesNotInThrees) ≡ Ok l → Passed cs l
     whole true g e = few (eqb-true (length cs % 3) 0 g) (leb (length cs) (most_touches * 3)) refl e
-    whole false g e = clash e 1 refl
+    whole false g e = cc
 
-pub sound_accepted : (cs : List ℤ) → Sound cs → checked cs ≡ Accepted (record { count = touch_count cs })
+pub sound_accepted : (cs : List ℤ) → Sound cs → checked cs ≡ Ok cs
 sound_accepted cs s = simp (eq-eqb (length cs % 3) 0 s.whole, le-leb (length cs) (most_touches * 3) s.few, stray_nowhere 0 cs s.near)
 
 -- ---- one touch of a sound list

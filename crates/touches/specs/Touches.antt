@@ -5,7 +5,6 @@ use Rattle.touches.specs.Limits.{most_touches, reach}
 use Rattle.touches.specs.declared.Point.{Point}
 use Rattle.touches.specs.declared.TouchNo.{TouchNo}
 use Rattle.touches.specs.declared.FaceNo.{FaceNo}
-use Rattle.touches.specs.declared.Refusal.{Refusal}
 
 abbrev pub touch_count : List ℤ → ℕ
 touch_count cs = length cs / 3
@@ -22,10 +21,6 @@ plain ks = map (λ (k : TouchNo). k.0) ks
 
 abbrev pub face_no : ℕ → FaceNo
 face_no k = record { 0 = k }
-
--- a refusal's number and its place
-abbrev pub refusal : ℕ → ℕ → Refusal
-refusal n k = record { number = n; place = touch_no k }
 
 -- each coordinate of p is at most B in size
 pub record Small (B : ℕ) (p : Point) : Type 0 where

@@ -11,13 +11,13 @@ pub returns-then-not-in_range : goal.returns-then-not-in_range
 returns-then-not-in_range c =
     let s = c.args.coords.now in
     let f : SFits w32 (get_or s c.loop-i.i (pos 0)) = search rules in
-    sym (c.loop-i.invariant.1 ∙ stray_here s c.loop-i.i (search rules) (sym (c.if-not-in_range.ensures ∙ ap in_range (wide_is f))))
+    sym (c.loop-i.invariant ∙ stray_here s c.loop-i.i (search rules) (sym (c.if-not-in_range.ensures ∙ ap in_range (wide_is f))))
 
 pub loop-i-preserved : goal.loop-i-preserved
 loop-i-preserved c =
     let s = c.args.coords.now in
     let f : SFits w32 (get_or s c.loop-i.i (pos 0)) = search rules in
-    (search rules, c.loop-i.invariant.1 ∙ stray_past s c.loop-i.i (search rules) (sym (c.if-not-in_range.ensures ∙ ap in_range (wide_is f))))
+    c.loop-i.invariant ∙ stray_past s c.loop-i.i (search rules) (sym (c.if-not-in_range.ensures ∙ ap in_range (wide_is f)))
 
 pub returns : goal.returns
-returns c = sym (c.loop-i.invariant.1 ∙ stray_none c.args.coords.now c.loop-i.i c.loop-i.invariant.0 (search rules))
+returns c = sym (c.loop-i.invariant ∙ stray_none c.args.coords.now c.loop-i.i (search rules) (search rules))

@@ -1,0 +1,57 @@
+// A lent list that passed refusals 1 to 3: in a clause it is the list of its coordinates.
+ghost use Rattle.std.specs.Prelude.{◌≡◌};
+ghost use Rattle.touches.specs.Limits.{limits_of};
+ghost use Rattle.touches.specs.Touches.{Sound, touch_count};
+
+use crate::Limits;
+use std::marker::Model;
+
+pub struct TouchList<'a> {
+    pub(crate) coords: &'a [i32],
+}
+
+impl<'a> Model for TouchList<'a> {
+    ghost use Rattle.std.specs.Prelude.{List, ℤ};
+    ghost use Rattle.touches.specs.Touches.{Sound};
+
+    ghost Value = { List ℤ };
+
+    ghost view = { λ l. l.coords.now };
+
+    ghost invariant = { λ l. Sound l.coords.now };
+}
+
+impl TouchList<'_> {
+    pub const MOST: usize = 64;
+
+    pub const REACH: i64 = 30000;
+
+    pub const MOST_FACES: usize = 1344;
+
+    // No hull has more faces (`cover` FewFaces).
+    pub const ENOUGH_FACES: usize = 2 * TouchList::MOST - 4;
+
+    // The limits that the definitions name are those of the code.
+    pub fn limits() -> Limits
+        ensures { result ≡ limits_of }
+    {
+        Limits {
+            touches: TouchList::MOST,
+            reach: TouchList::REACH,
+            faces: TouchList::MOST_FACES,
+        }
+    }
+
+    pub fn coords(&self) -> &[i32]
+        ensures is { result.now ≡ self.now }
+        ensures sound { Sound self.now }
+    {
+        self.coords
+    }
+
+    pub fn count(&self) -> usize
+        ensures { result ≡ touch_count self.now }
+    {
+        self.coords.len() / 3
+    }
+}
