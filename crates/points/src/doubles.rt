@@ -1,9 +1,8 @@
 // Points and normals in doubles: with the differences taken first every step stays below 2^53.
 ghost use Rattle.std.specs.Prelude.{◌≡◌};
-ghost use Rattle.touches.specs.Touches.{Near};
-ghost use Rattle.points.specs.Doubles.{InDoubles, spot_normal};
+ghost use Rattle.points.specs.Doubles.{spot_normal};
 
-use touches::Point;
+use touches::Place;
 
 #[derive(Clone, Copy)]
 pub struct Spot {
@@ -12,14 +11,17 @@ pub struct Spot {
     pub z: f64,
 }
 
-pub fn in_doubles(p: Point) -> Spot
-    requires { Near p }
-    ensures { InDoubles p result }
-{
-    Spot {
-        x: p.x as f64,
-        y: p.y as f64,
-        z: p.z as f64,
+impl From<Place> for Spot {
+    ghost use Rattle.points.specs.Doubles.{InDoubles};
+
+    ghost from_gives = { InDoubles };
+
+    fn from(p: Place) -> Spot {
+        Spot {
+            x: p.x as f64,
+            y: p.y as f64,
+            z: p.z as f64,
+        }
     }
 }
 

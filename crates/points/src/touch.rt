@@ -1,18 +1,16 @@
 // One touch of a list that passed refusals 1 to 3.
-ghost use Rattle.std.specs.Prelude.{◌<◌};
-ghost use Rattle.touches.specs.Limits.{reach};
-ghost use Rattle.touches.specs.Touches.{touch, touch_count, Sound};
-ghost use Rattle.points.specs.Sizes.{Vector};
+ghost use Rattle.std.specs.Prelude.{◌≡◌, ◌<◌};
+ghost use Rattle.touches.specs.Touches.{touch, touch_count};
 
-use touches::{Point, TouchNo};
+use touches::{Place, TouchList, TouchNo};
 
-pub fn touch(coords: &[i32], k: TouchNo) -> Point
-    requires { Sound coords.now × (k.0 < touch_count coords.now) }
-    ensures { Vector reach (touch coords.now k.0) result }
+pub fn touch(list: &TouchList<'_>, k: TouchNo) -> Place
+    requires { k.0 < touch_count list.now }
+    ensures { result ≡ touch list.now k.0 }
 {
-    let n = k.0;
-    let at = n as usize * 3;
-    Point {
+    let coords = list.coords();
+    let at = k.0 as usize * 3;
+    Place {
         x: coords[at] as i64,
         y: coords[at + 1] as i64,
         z: coords[at + 2] as i64,

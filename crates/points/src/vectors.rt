@@ -1,14 +1,13 @@
 // Differences, products and normals of points in range, in whole numbers.
 ghost use Rattle.std.specs.Prelude.{◌≡◌};
 ghost use Rattle.laws.specs.Numbers.{Within};
-ghost use Rattle.touches.specs.Touches.{Near, Small};
+ghost use Rattle.touches.specs.Touches.{Small};
 ghost use Rattle.volume.specs.Volume.{most_gap, most_normal, most_volume, det2, minus, cross, dot, normal, in_line};
 ghost use Rattle.points.specs.Sizes.{Number, Vector};
 
-use touches::Point;
+use touches::{Place, Point};
 
-fn minus(p: Point, a: Point) -> Point
-    requires { Near p × Near a }
+fn minus(p: Place, a: Place) -> Point
     ensures { Vector most_gap (minus p a) result }
 {
     Point {
@@ -36,24 +35,22 @@ fn cross(u: Point, v: Point) -> Point
     }
 }
 
-pub fn dot(u: Point, v: Point) -> i64
-    requires { Small most_normal u × Small most_gap v }
+pub fn dot(u: Point, v: Place) -> i64
+    requires { Small most_normal u }
     ensures { Number most_volume (dot u v) result }
 {
     u.x * v.x + u.y * v.y + u.z * v.z
 }
 
 // The normal of face (a, b, c).
-pub fn normal(a: Point, b: Point, c: Point) -> Point
-    requires { Near a × Near b × Near c }
+pub fn normal(a: Place, b: Place, c: Place) -> Point
     ensures { Vector most_normal (normal a b c) result }
 {
     cross(minus(b, a), minus(c, a))
 }
 
 // Three corners in line span no plane.
-pub fn in_line(a: Point, b: Point, c: Point) -> bool
-    requires { Near a × Near b × Near c }
+pub fn in_line(a: Place, b: Place, c: Place) -> bool
     ensures { result ≡ in_line a b c }
 {
     let n = normal(a, b, c);

@@ -1,27 +1,44 @@
-// The plane of a face in whole numbers: the three parts of the normal and the offset.
+// The plane of a face in whole numbers: the normal and the offset.
 ghost use Rattle.std.specs.Prelude.{◌≡◌};
-ghost use Rattle.touches.specs.Touches.{touch, plain, Near, Sound};
+ghost use Rattle.touches.specs.Touches.{touch, plain};
 ghost use Rattle.rules.specs.Demands.{FaceOf};
 ghost use Rattle.points.specs.Whole.{whole_plane, plane_on};
 
 use crate::touch::touch;
 use crate::vectors::{dot, normal};
-use touches::{Point, TouchNo};
+use std::marker::Model;
+use touches::{Place, Point, TouchList, TouchNo};
 
-fn through(a: Point, b: Point, c: Point) -> [i64; 4]
-    requires { Near a × Near b × Near c }
+// Its numbers are no larger than those of a face.
+#[derive(Clone, Copy)]
+pub struct WholePlane {
+    pub normal: Point,
+    pub offset: i64,
+}
+
+impl Model for WholePlane {
+    ghost use Rattle.points.specs.Whole.{Plane, PlaneNear};
+
+    ghost Value = { Plane };
+
+    ghost view = { λ p. record { normal = p.normal; offset = p.offset } };
+
+    ghost invariant = { λ p. PlaneNear (record { normal = p.normal; offset = p.offset }) };
+
+    ghost inverse = { λ p. record { normal = p.normal; offset = p.offset } };
+}
+
+fn through(a: Place, b: Place, c: Place) -> WholePlane
     ensures { result ≡ whole_plane a b c }
 {
     let n = normal(a, b, c);
-    [n.x, n.y, n.z, dot(n, a)]
+    let offset = dot(n, a);
+    WholePlane { normal: n, offset }
 }
 
-pub fn plane_on(coords: &[i32], f: [TouchNo; 3]) -> [i64; 4]
-    requires { Sound coords.now × FaceOf coords.now (plain f) }
-    ensures { result ≡ plane_on (touch coords.now) (plain f) }
+pub fn plane_on(list: &TouchList<'_>, f: [TouchNo; 3]) -> WholePlane
+    requires { FaceOf list.now (plain f) }
+    ensures { result ≡ plane_on (touch list.now) (plain f) }
 {
-    let a = touch(coords, f[0]);
-    let b = touch(coords, f[1]);
-    let c = touch(coords, f[2]);
-    through(a, b, c)
+    through(touch(list, f[0]), touch(list, f[1]), touch(list, f[2]))
 }

@@ -81,5 +81,5 @@ pub fn check(coords: &[i32]) -> Result<TouchList<'_>, Refusal>
     if let Some(k) = first_stray(coords) {
         return Err(Refusal::CoordinateOutOfRange(k));
     }
-    Ok(TouchList { coords })
+    Ok(TouchList { lent: coords })
 }

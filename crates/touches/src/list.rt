@@ -7,7 +7,7 @@ use crate::Limits;
 use std::marker::Model;
 
 pub struct TouchList<'a> {
-    pub(crate) coords: &'a [i32],
+    pub(crate) lent: &'a [i32],
 }
 
 impl<'a> Model for TouchList<'a> {
@@ -16,9 +16,9 @@ impl<'a> Model for TouchList<'a> {
 
     ghost Value = { List ℤ };
 
-    ghost view = { λ l. l.coords.now };
+    ghost view = { λ l. l.lent.now };
 
-    ghost invariant = { λ l. Sound l.coords.now };
+    ghost invariant = { λ l. Sound l.lent.now };
 }
 
 impl TouchList<'_> {
@@ -46,12 +46,12 @@ impl TouchList<'_> {
         ensures is { result.now ≡ self.now }
         ensures sound { Sound self.now }
     {
-        self.coords
+        self.lent
     }
 
     pub fn count(&self) -> usize
         ensures { result ≡ touch_count self.now }
     {
-        self.coords.len() / 3
+        self.coords().len() / 3
     }
 }
