@@ -3,26 +3,20 @@ use mathlib.Core.Path.{◌≡◌, refl}
 use mathlib.Core.Bool.{Bool, true, false, not, ◌&&◌}
 use mathlib.Core.List.{List}
 use Prim.Native.Nat.{ℕ, ◌<◌, ◌≤◌}
-use native.Mathlib.Omega.{arith}
 use lib.Dec.{ltb→lt}
 use lib.IntN.{ℤ, neg_ℤ}
 use borrow.Author.Tests.{lt-ltb, le-ltb}
 use Rattle.laws.proofs.Tests.{and_both, T_of}
 use Rattle.touches.specs.declared.Point.{Point}
-use Rattle.touches.specs.declared.Refusal.{Refusal}
-use Rattle.touches.specs.declared.TouchList.{TouchList}
-use Rattle.touches.specs.declared.Checked.{Checked}
-use Rattle.touches.specs.declared.Checked.TheVariants.{Accepted, Refused as CheckedRefused}
+use Rattle.std.specs.Prelude.{Float, Result, Ok, Err}
+use Rattle.touches.specs.declared.refusal.Refusal.{Refusal}
+use Rattle.touches.specs.declared.refusal.Refusal.TheVariants.{NoSuchFace, PlaceOutOfRange}
 use Rattle.touches.specs.Touches.{touch, touch_count, Near}
-use Rattle.touches.specs.Refusals.{no_such_face, place_out_of_range, because}
 use Rattle.touches.specs.Check.{pick, checked, if_accepted}
 use Rattle.touches.proofs.SoundLaws.{accepted_sound, touch_near}
 use Rattle.touches.specs.Limits.{place_in_range}
 use Rattle.volume.specs.Volume.{Vol, in_line}
 use Rattle.planes.specs.declared.Plane.{Plane}
-use Rattle.planes.specs.declared.Planed.TheVariants.{Of, Refused}
-use Rattle.planes.specs.declared.Reading.{Reading}
-use Rattle.planes.specs.declared.Reading.TheVariants.{Of as Reads, Refused as ReadingRefused}
 use Rattle.laws.specs.Doubles.{double}
 use Rattle.planes.specs.Planes.{plane_of, is_touch, good_corners, face_plane, planed, plane_reading}
 
@@ -44,21 +38,21 @@ module _ (cs : List ℤ) (a b c : ℕ) where
   unfolding good_corners
   by_line h k l t e = simp (lt-ltb a (touch_count cs) h, lt-ltb b (touch_count cs) k, lt-ltb c (touch_count cs) l, e)
 
-  pub refused_6 : good_corners cs a b c ≡ false → Refused (because no_such_face) ≡ face_plane cs a b c
+  pub refused_6 : good_corners cs a b c ≡ false → Err NoSuchFace ≡ face_plane cs a b c
   refused_6 e = simp e
 
-  pub plane_6 : good_corners cs a b c ≡ true → Of (plane_of (touch cs a) (touch cs b) (touch cs c)) ≡ face_plane cs a b c
+  pub plane_6 : good_corners cs a b c ≡ true → Ok (plane_of (touch cs a) (touch cs b) (touch cs c)) ≡ face_plane cs a b c
   plane_6 e = simp e
 
 -- ---- from the plane's answer to the reading's
-abbrev pub at : List ℤ → ℕ → ℕ → ℕ → Point → Reading
-at cs a b c q = pick (place_in_range q) (Reads (double (neg_ℤ (Vol (touch cs a) (touch cs b) (touch cs c) q)))) (ReadingRefused (because place_out_of_range))
+abbrev pub at : List ℤ → ℕ → ℕ → ℕ → Point → Result Float Refusal
+at cs a b c q = pick (place_in_range q) (Ok (double (neg_ℤ (Vol (touch cs a) (touch cs b) (touch cs c) q)))) (Err PlaceOutOfRange)
 
 module _ (cs : List ℤ) (a b c : ℕ) (q : Point) where
-  pub out_of_place : place_in_range q ≡ false → ReadingRefused (because place_out_of_range) ≡ at cs a b c q
+  pub out_of_place : place_in_range q ≡ false → Err PlaceOutOfRange ≡ at cs a b c q
   out_of_place e = simp e
 
-  pub in_place : place_in_range q ≡ true → Reads (double (neg_ℤ (Vol (touch cs a) (touch cs b) (touch cs c) q))) ≡ at cs a b c q
+  pub in_place : place_in_range q ≡ true → Ok (double (neg_ℤ (Vol (touch cs a) (touch cs b) (touch cs c) q))) ≡ at cs a b c q
   in_place e = simp e
 
 pub record Known (cs : List ℤ) (a b c : ℕ) (p : Plane) : Type 0 where
@@ -78,25 +72,25 @@ module _ (cs : List ℤ) (a b c : ℕ) where
       let z = and_both (is_touch cs c) n y.1 in
       (ltb→lt a (touch_count cs) x.0, ltb→lt b (touch_count cs) y.0, ltb→lt c (touch_count cs) z.0)
 
-  pub planed_known : (p : Plane) → planed cs a b c ≡ Of p → Known cs a b c p
+  pub planed_known : (p : Plane) → planed cs a b c ≡ Ok p → Known cs a b c p
   planed_known p e = list (checked cs) refl e
     where
-      corners : (l : TouchList) → checked cs ≡ Accepted l → (t : Bool) → good_corners cs a b c ≡ t → pick t (Of (plane_of (touch cs a) (touch cs b) (touch cs c))) (Refused (because no_such_face)) ≡ Of p → Known cs a b c p
+      corners : (l : List ℤ) → checked cs ≡ Ok l → (t : Bool) → good_corners cs a b c ≡ t → pick t (Ok (plane_of (touch cs a) (touch cs b) (touch cs c))) (Err NoSuchFace) ≡ Ok p → Known cs a b c p
       corners l h true g e = let s = (accepted_sound cs l h).sound in let i = corners_in g in
           record { near_a = touch_near s a i.0; near_b = touch_near s b i.1; near_c = touch_near s c i.2; is = cc; reading = λ q. simp (h, g) }
-      corners l h false g e = let z : ◌≡◌ {A = ℕ} 0 1 = cc in absurd (omega arith)
+      corners l h false g e = cc
 
-      list : (k : Checked) → checked cs ≡ k → if_accepted k Refused (face_plane cs a b c) ≡ Of p → Known cs a b c p
-      list (Accepted l) h e = corners l h (good_corners cs a b c) refl e
-      list (CheckedRefused r) h e = let z : ◌≡◌ {A = ℕ} 0 1 = cc in absurd (omega arith)
+      list : (k : Result (List ℤ) Refusal) → checked cs ≡ k → if_accepted k (face_plane cs a b c) ≡ Ok p → Known cs a b c p
+      list (Ok l) h e = corners l h (good_corners cs a b c) refl e
+      list (Err r) h e = cc
 
-  pub planed_refused : (r : Refusal) → planed cs a b c ≡ Refused r → (q : Point) → ReadingRefused r ≡ plane_reading cs a b c q
+  pub planed_refused : (r : Refusal) → planed cs a b c ≡ Err r → (q : Point) → Err r ≡ plane_reading cs a b c q
   planed_refused r e q = list (checked cs) e
     where
-      corners : (t : Bool) → pick t (Of (plane_of (touch cs a) (touch cs b) (touch cs c))) (Refused (because no_such_face)) ≡ Refused r → ReadingRefused r ≡ pick t (at cs a b c q) (ReadingRefused (because no_such_face))
-      corners true e = let z : ◌≡◌ {A = ℕ} 0 1 = cc in absurd (omega arith)
+      corners : (t : Bool) → pick t (Ok (plane_of (touch cs a) (touch cs b) (touch cs c))) (Err NoSuchFace) ≡ Err r → Err r ≡ pick t (at cs a b c q) (Err NoSuchFace)
+      corners true e = cc
       corners false e = cc
 
-      list : (k : Checked) → if_accepted k Refused (face_plane cs a b c) ≡ Refused r → ReadingRefused r ≡ if_accepted k ReadingRefused (pick (good_corners cs a b c) (at cs a b c q) (ReadingRefused (because no_such_face)))
-      list (Accepted l) e = corners (good_corners cs a b c) e
-      list (CheckedRefused k) e = cc
+      list : (k : Result (List ℤ) Refusal) → if_accepted k (face_plane cs a b c) ≡ Err r → Err r ≡ if_accepted k (pick (good_corners cs a b c) (at cs a b c q) (Err NoSuchFace))
+      list (Ok l) e = corners (good_corners cs a b c) e
+      list (Err k) e = cc

@@ -1,16 +1,16 @@
 // The plane of a face as four doubles, and its reading at a place.
 #![tactic(auto)]
 
-ghost use Rattle.std.specs.Prelude.{◌≡◌, ◌<◌, neg_ℤ};
-ghost use Rattle.touches.specs.Touches.{Near, Sound, touch_count};
+ghost use Rattle.std.specs.Prelude.{◌≡◌, neg_ℤ};
+ghost use Rattle.touches.specs.Touches.{Near};
 ghost use Rattle.volume.specs.Volume.{Vol};
 ghost use Rattle.laws.specs.Doubles.{double};
 ghost use Rattle.planes.specs.Planes.{plane_of, face_plane, planed, plane_reading};
 
-use points::doubles::{in_doubles, normal};
+use points::doubles::{Spot, normal};
 use points::touch::touch;
 use points::vectors::in_line;
-use touches::{Checked, Point, Refusal, TouchNo};
+use touches::{Place, Point, Refusal, TouchList, TouchNo};
 
 // The three parts of the normal, and its dot product with the first corner: each exactly that whole number, zero being plus zero.
 #[derive(Clone, Copy)]
@@ -21,24 +21,11 @@ pub struct Plane {
     pub offset: f64,
 }
 
-#[derive(Clone, Copy)]
-pub enum Planed {
-    Of(Plane),
-    Refused(Refusal),
-}
-
-#[derive(Clone, Copy)]
-pub enum Reading {
-    Of(f64),
-    Refused(Refusal),
-}
-
-fn plane_through(a: Point, b: Point, c: Point) -> Plane
-    requires { Near a × Near b × Near c }
+fn plane_through(a: Place, b: Place, c: Place) -> Plane
     ensures { result ≡ plane_of a b c }
 {
-    let o = in_doubles(a);
-    let n = normal(o, in_doubles(b), in_doubles(c));
+    let o = Spot::from(a);
+    let n = normal(o, Spot::from(b), Spot::from(c));
     let x = n.x + 0.0;
     let y = n.y + 0.0;
     let z = n.z + 0.0;
@@ -47,59 +34,48 @@ fn plane_through(a: Point, b: Point, c: Point) -> Plane
 }
 
 // Normal dot q minus the offset: minus V where p is the plane of a face.
-fn read_at(p: Plane, q: Point) -> f64
-    requires { Near q }
+fn read_at(p: Plane, q: Place) -> f64
     ensures { (a b c : Point) → Near a → Near b → Near c → p ≡ plane_of a b c → result ≡ double (neg_ℤ (Vol a b c q)) }
 {
-    let s = in_doubles(q);
+    let s = Spot::from(q);
     p.x * s.x + p.y * s.y + p.z * s.z - p.offset + 0.0
 }
 
-// The plane of three touches of a sound list, or refusal 6.
-fn face_plane(coords: &[i32], count: usize, a: TouchNo, b: TouchNo, c: TouchNo) -> Planed
-    requires { Sound coords.now × (count ≡ touch_count coords.now) }
-    ensures { result ≡ face_plane coords.now a.0 b.0 c.0 }
+// The plane of three touches of a list that passed, or refusal 6.
+fn face_plane(list: &TouchList<'_>, a: TouchNo, b: TouchNo, c: TouchNo) -> Result<Plane, Refusal>
+    ensures { result ≡ face_plane list.now a.0 b.0 c.0 }
 {
-    let refused = Planed::Refused(Refusal::because(Refusal::NO_SUCH_FACE));
-    if count <= a.0 as usize {
-        return refused;
+    let n = list.count();
+    if n <= a.0 as usize || n <= b.0 as usize || n <= c.0 as usize {
+        return Err(Refusal::NoSuchFace);
     }
-    if count <= b.0 as usize {
-        return refused;
-    }
-    if count <= c.0 as usize {
-        return refused;
-    }
-    let p = touch(coords, a);
-    let q = touch(coords, b);
-    let r = touch(coords, c);
+    let p = touch(list, a);
+    let q = touch(list, b);
+    let r = touch(list, c);
     if in_line(p, q, r) {
-        return refused;
+        return Err(Refusal::NoSuchFace);
     }
-    Planed::Of(plane_through(p, q, r))
+    Ok(plane_through(p, q, r))
 }
 
 // The plane of face (a, b, c). Refusals 1, 2, 3, 6.
-pub fn plane_of(coords: &[i32], a: TouchNo, b: TouchNo, c: TouchNo) -> Planed
+pub fn plane_of(coords: &[i32], a: TouchNo, b: TouchNo, c: TouchNo) -> Result<Plane, Refusal>
     ensures { result ≡ planed coords.now a.0 b.0 c.0 }
 {
-    match touches::check(coords) {
-        Checked::Refused(r) => Planed::Refused(r),
-        Checked::Accepted(list) => face_plane(coords, list.count, a, b, c),
-    }
+    let list = touches::check(coords)?;
+    face_plane(&list, a, b, c)
 }
 
 // What the plane of face (a, b, c) reads at q: exactly −V(a, b, c, q). Refusals 1, 2, 3, 6, 7.
-pub fn plane_reading(coords: &[i32], a: TouchNo, b: TouchNo, c: TouchNo, q: Point) -> Reading
+pub fn plane_reading(
+    coords: &[i32],
+    a: TouchNo,
+    b: TouchNo,
+    c: TouchNo,
+    q: Point,
+) -> Result<f64, Refusal>
     ensures { result ≡ plane_reading coords.now a.0 b.0 c.0 q }
 {
-    match plane_of(coords, a, b, c) {
-        Planed::Refused(r) => Reading::Refused(r),
-        Planed::Of(p) => {
-            if !touches::place_in_range(q) {
-                return Reading::Refused(Refusal::because(Refusal::PLACE_OUT_OF_RANGE));
-            }
-            Reading::Of(read_at(p, q))
-        }
-    }
+    let p = plane_of(coords, a, b, c)?;
+    Ok(read_at(p, Place::try_from(q)?))
 }

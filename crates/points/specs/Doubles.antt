@@ -4,9 +4,12 @@ use Rattle.std.specs.Float.{binary64}
 use Rattle.std.specs.Float.Ieee.{sub, mul}
 use Rattle.laws.specs.Doubles.{double}
 use Rattle.touches.specs.declared.Point.{Point}
+use Rattle.touches.specs.Touches.{Near}
 use Rattle.points.specs.declared.doubles.Spot.{Spot}
 
+-- r is the point p, which is in range, in doubles
 pub record InDoubles (p : Point) (r : Spot) : Type 0 where
+  pub near : Near p
   pub x : r.x ≡ double p.x
   pub y : r.y ≡ double p.y
   pub z : r.z ≡ double p.z

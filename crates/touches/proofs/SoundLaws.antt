@@ -16,11 +16,11 @@ use Rattle.laws.proofs.WithinLaws.{within_fits}
 use Rattle.laws.proofs.Tests.{is_true, T_of, and_both, both_and}
 use Rattle.touches.specs.Limits.{most_touches, reach, in_range, place_in_range}
 use Rattle.touches.specs.Touches.{touch_count, touch_no, Near, Sound, touch}
-use Rattle.touches.specs.Check.{pick, stray_from, of_stray, checked}
+use Rattle.touches.specs.Check.{pick, stray_from, of_stray, checked, place_checked}
 use Rattle.touches.specs.declared.Point.{Point}
 use Rattle.touches.specs.declared.TouchNo.{TouchNo}
 use Rattle.std.specs.Prelude.{Option, None, Some, Ok, Err}
-use Rattle.touches.specs.declared.refusal.Refusal.TheVariants.{CoordinatesNotInThrees, TooManyTouches}
+use Rattle.touches.specs.declared.refusal.Refusal.TheVariants.{CoordinatesNotInThrees, TooManyTouches, PlaceOutOfRange}
 
 -- ---- one coordinate
 pub range_within : (z : ℤ) → in_range z ≡ true → Within reach z
@@ -48,6 +48,13 @@ pub near_place : (q : Point) → Near q → place_in_range q ≡ true
 near_place q s =
     let two = both_and (in_range q.x) (in_range q.y) (T_of (within_range q.x s.x)) (T_of (within_range q.y s.y)) in
     is_true (place_in_range q) (both_and (in_range q.x && in_range q.y) (in_range q.z) two (T_of (within_range q.z s.z)))
+
+pub place_passed : (q r : Point) → place_checked q ≡ Ok r → (r ≡ q) × (place_in_range q ≡ true)
+place_passed q r e = go (place_in_range q) refl e
+  where
+    go : (b : Bool) → place_in_range q ≡ b → pick b (Ok q) (Err PlaceOutOfRange) ≡ Ok r → (r ≡ q) × (place_in_range q ≡ true)
+    go true g e = (cc, g)
+    go false g e = cc
 
 -- the three numbers as the machine holds them
 pub near_held : (q : Point) → Near q → Near (record { x = to_z w64 (of_z w64 q.x); y = to_z w64 (of_z w64 q.y); z = to_z w64 (of_z w64 q.z) })

@@ -6,6 +6,7 @@ ghost use Rattle.touches.specs.Touches.{Sound, touch_count};
 use crate::Limits;
 use std::marker::Model;
 
+#[derive(Drop)]
 pub struct TouchList<'a> {
     pub(crate) lent: &'a [i32],
 }

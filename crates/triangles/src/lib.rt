@@ -3,13 +3,13 @@
 #![tactic(auto)]
 
 ghost use Rattle.std.specs.Prelude.{◌≡◌, pos};
-ghost use Rattle.touches.specs.Touches.{Near, Small};
+ghost use Rattle.touches.specs.Touches.{Small};
 ghost use Rattle.volume.specs.Volume.{Vol, most_normal};
 ghost use Rattle.volume.specs.Triangle.{in_triangle, between, on_segment, contains};
 ghost use Rattle.volume.specs.SameWay.{opposed, same_way};
 
 use points::vectors::{in_line, normal};
-use touches::Point;
+use touches::{Place, Point};
 
 // One of the numbers is above 0 and the other below.
 fn opposed(n: i64, m: i64) -> bool
@@ -27,8 +27,8 @@ fn same_way(n: Point, m: Point) -> bool
 }
 
 // q is beyond no side.
-fn in_triangle(a: Point, b: Point, c: Point, q: Point) -> bool
-    requires { Near a × Near b × Near c × Near q × (Vol a b c q ≡ pos 0) }
+fn in_triangle(a: Place, b: Place, c: Place, q: Place) -> bool
+    requires { Vol a b c q ≡ pos 0 }
     ensures { result ≡ in_triangle a b c q }
 {
     let n = normal(a, b, c);
@@ -43,8 +43,7 @@ fn between(x: i64, y: i64, z: i64, t: i64) -> bool
 }
 
 // q is on the smallest segment that has a, b and c, which are in line.
-fn on_segment(a: Point, b: Point, c: Point, q: Point) -> bool
-    requires { Near a × Near b × Near c × Near q }
+fn on_segment(a: Place, b: Place, c: Place, q: Place) -> bool
     ensures { result ≡ on_segment a b c q }
 {
     in_line(a, b, q)
@@ -57,8 +56,8 @@ fn on_segment(a: Point, b: Point, c: Point, q: Point) -> bool
 
 // The triangle of a, b, c contains q, which is on their plane.
 #[tactic(auto, unfolding(volume::specs::Triangle::contains))]
-pub fn contains(a: Point, b: Point, c: Point, q: Point) -> bool
-    requires { Near a × Near b × Near c × Near q × (Vol a b c q ≡ pos 0) }
+pub fn contains(a: Place, b: Place, c: Place, q: Place) -> bool
+    requires { Vol a b c q ≡ pos 0 }
     ensures { result ≡ contains a b c q }
 {
     if in_line(a, b, c) {

@@ -1,15 +1,18 @@
 use mathlib.Core.Path.{sym, ap, ◌∙◌}
-use Rattle.touches.proofs.SoundLaws.{place_near}
-use Rattle.planes.specs.declared.Reading.TheVariants.{Of}
+use Rattle.std.specs.Prelude.{Ok, neg_ℤ}
+use Rattle.laws.specs.Doubles.{double}
+use Rattle.touches.specs.declared.Point.{Point}
+use Rattle.touches.specs.Touches.{touch}
+use Rattle.touches.proofs.SoundLaws.{place_passed}
+use Rattle.volume.specs.Volume.{Vol}
 use Rattle.planes.proofs.PlanedLaws.{planed_known, in_place}
 use Rattle.planes.proofs.plane_reading.Goals as goal
 
-pub read_at-requires : goal.read_at-requires
-read_at-requires c = place_near c.args.q (sym c.if-not-place_in_range.ensures)
-
-pub returns-else-not-place_in_range : goal.returns-else-not-place_in_range
-returns-else-not-place_in_range c =
+pub returns : goal.returns
+returns c =
     let g = c.args in
-    let k = planed_known g.coords.now g.a.0 g.b.0 g.c.0 c.in-Of.p (sym c.in-Of.ensures) in
-    ap Of (c.read_at.ensures _ _ _ k.near_a k.near_b k.near_c k.is)
-    ∙ in_place g.coords.now g.a.0 g.b.0 g.c.0 g.q (sym c.if-not-place_in_range.ensures) ∙ k.reading g.q
+    let cs = g.coords.now in
+    let k = planed_known cs g.a.0 g.b.0 g.c.0 c.in_ok-p.p (sym c.plane_of.ensures ∙ c.in_ok-p.was) in
+    let u = place_passed g.q c.in_ok-try_from.field-0 (sym c.try_from.ensures ∙ c.in_ok-try_from.was) in
+    ap Ok (c.read_at.ensures _ _ _ k.near_a k.near_b k.near_c k.is ∙ ap (λ (q : Point). double (neg_ℤ (Vol (touch cs g.a.0) (touch cs g.b.0) (touch cs g.c.0) q))) u.0)
+    ∙ in_place cs g.a.0 g.b.0 g.c.0 g.q u.1 ∙ k.reading g.q

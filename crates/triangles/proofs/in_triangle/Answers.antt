@@ -10,4 +10,4 @@ returns c =
     let ab = c.same_way.ensures ∙ ap₂ same_way n c.normal.ensures.is in
     let bc = c.same_way-2.ensures ∙ ap₂ same_way n c.normal-2.ensures.is in
     let ca = c.same_way-3.ensures ∙ ap₂ same_way n c.normal-3.ensures.is in
-    ap₂ ◌&&◌ (ap₂ ◌&&◌ ab bc) ca ∙ in_triangle_is c.args.a c.args.b c.args.c c.args.q c.requires.4
+    ap₂ ◌&&◌ (ap₂ ◌&&◌ ab bc) ca ∙ in_triangle_is c.args.a c.args.b c.args.c c.args.q c.requires

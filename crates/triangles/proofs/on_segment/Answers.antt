@@ -14,9 +14,12 @@ along x y z t e = e ∙ (λ i. between (passed tt x i) (passed tt y i) (passed t
 pub returns : goal.returns
 unfolding on_segment
 returns c =
-    let h = c.requires in
+    let a = c.a.invariant in
+    let b = c.b.invariant in
+    let d = c.c.invariant in
+    let q = c.q.invariant in
     let lines = ap₂ ◌&&◌ (ap₂ ◌&&◌ c.in_line.ensures c.in_line-2.ensures) c.in_line-3.ensures in
-    let x = along h.0.x h.1.x h.2.x h.3.x c.between.ensures in
-    let y = along h.0.y h.1.y h.2.y h.3.y c.between-2.ensures in
-    let z = along h.0.z h.1.z h.2.z h.3.z c.between-3.ensures in
+    let x = along a.x b.x d.x q.x c.between.ensures ∙ (λ i. between (c.a.view_is i).x (c.b.view_is i).x (c.c.view_is i).x (c.q.view_is i).x) in
+    let y = along a.y b.y d.y q.y c.between-2.ensures ∙ (λ i. between (c.a.view_is i).y (c.b.view_is i).y (c.c.view_is i).y (c.q.view_is i).y) in
+    let z = along a.z b.z d.z q.z c.between-3.ensures ∙ (λ i. between (c.a.view_is i).z (c.b.view_is i).z (c.c.view_is i).z (c.q.view_is i).z) in
     ap₂ ◌&&◌ (ap₂ ◌&&◌ (ap₂ ◌&&◌ lines x) y) z
