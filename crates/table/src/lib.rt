@@ -2,7 +2,7 @@
 #![tactic(auto)]
 
 ghost use Rattle.std.specs.Prelude.{◌≡◌, ◌+◌, ◌*◌, ◌≤◌, leb, ltb, length, get_or};
-ghost use Rattle.laws.specs.Lists.{every, lay, Laid};
+ghost use Rattle.laws.specs.Lists.{every, lay};
 ghost use Rattle.touches.specs.Limits.{most_faces};
 ghost use Rattle.touches.specs.Touches.{plain};
 ghost use Rattle.table.specs.Table.{stride, room, numbers, lent, face_at, faces_in, put_over, among, usable};
@@ -32,10 +32,7 @@ pub fn room(faces: &[u16]) -> usize
 fn number(faces: &[u16], i: usize) -> u16
     ensures { result ≡ get_or faces.now i 0 }
 {
-    if i < faces.len() {
-        return faces[i];
-    }
-    0
+    faces.get(i).copied().unwrap_or(0)
 }
 
 // The corners of face f.
@@ -51,26 +48,20 @@ pub fn face(faces: &[u16], f: FaceNo) -> [TouchNo; 3]
     ]
 }
 
-// Face f at the place at: the next place.
-fn put_face(faces: &mut [u16], at: usize, f: [u16; 3]) -> usize
+// Face f at the place at.
+fn put_face(faces: &mut [u16], at: usize, f: &[u16; 3])
     requires { at + stride ≤ length faces.old }
-    ensures { Laid at (numbers f) faces.old result faces.new }
+    ensures { faces.new ≡ lay at (numbers f.now) faces.old }
 {
-    faces[at] = f[0];
-    faces[at + 1] = f[1];
-    faces[at + 2] = f[2];
-    at + STRIDE
+    faces[at..at + STRIDE].copy_from_slice(f);
 }
 
 fn put_all(faces: &mut [u16], hull: &[[u16; 3]])
     requires { length hull.now ≤ room faces.old }
     ensures { faces.new ≡ lay 0 (lent hull.now) faces.old }
 {
-    let mut at: usize = 0;
-    let mut i: usize = 0;
-    while i < hull.len() {
-        at = put_face(faces, at, hull[i]);
-        i += 1;
+    for (i, f) in hull.iter().enumerate() {
+        put_face(faces, i * STRIDE, f);
     }
 }
 
@@ -104,29 +95,16 @@ fn all_among(faces: &[u16], n: usize) -> bool
     requires { room faces.now ≤ most_faces }
     ensures { result ≡ every (among n) (faces_in faces.now) }
 {
-    let m = room(faces);
-    let mut i: usize = 0;
-    while i < m {
-        if !is_among(face(faces, FaceNo(i as u16)), n) {
-            return false;
-        }
-        i += 1;
-    }
-    true
+    (0..room(faces) as u16).all(|i| is_among(face(faces, FaceNo(i)), n))
 }
 
 // Refusal 6's test of a table over n touches.
+#[tactic(auto, unfolding(crate::specs::Table::usable))]
 pub fn is_usable(faces: &[u16], n: usize) -> bool
     ensures { result ≡ usable n faces.now }
 {
-    if faces.len() == 0 {
-        return false;
-    }
-    if faces.len() % STRIDE != 0 {
-        return false;
-    }
-    if TouchList::MOST_FACES < room(faces) {
-        return false;
-    }
-    all_among(faces, n)
+    !faces.is_empty()
+        && faces.len() % STRIDE == 0
+        && room(faces) <= TouchList::MOST_FACES
+        && all_among(faces, n)
 }

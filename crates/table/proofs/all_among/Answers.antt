@@ -1,18 +1,14 @@
-use Rattle.std.proofs.Common.{sym, ◌∙◌, arith}
-use Rattle.table.proofs.TableLaws.{among_turn, among_end}
+use Rattle.std.proofs.Common.{rules, ◌≡◌, true, false, refl, arith}
+use Rattle.std.proofs.lemmas.Iterator.{cases_from_all, YieldsList-from_range}
+use borrow.Author.Tests.{tests}
+use Rattle.table.specs.Table.{among, face_at}
+use Rattle.table.proofs.TableLaws.{among_all}
 use Rattle.table.proofs.all_among.Goals as goal
-
-pub returns-then-not-is_among : goal.returns-then-not-is_among
-returns-then-not-is_among c =
-    let a = c.args in
-    sym (c.loop-i.invariant ∙ among_turn a.n a.faces.now c.loop-i.i (omega (arith, c.room-m.ensures)) c.face.ensures c.if-not-is_among.ensures)
-
-pub loop-i-preserved : goal.loop-i-preserved
-loop-i-preserved c =
-    let a = c.args in
-    c.loop-i.invariant ∙ among_turn a.n a.faces.now c.loop-i.i (omega (arith, c.room-m.ensures)) c.face.ensures c.if-not-is_among.ensures
 
 pub returns : goal.returns
 returns c =
-    let a = c.args in
-    sym (c.loop-i.invariant ∙ among_end a.n a.faces.now c.loop-i.i (omega (arith, c.room-m.ensures)))
+    let n = c.args.n in
+    let t = c.args.faces.now in
+    let m = c.room.result in
+    let h = cases_from_all _ _ c.all.result (λ i. among n (face_at t i) ≡ true) (λ i. among n (face_at t i) ≡ false) c.all.ensures.ran (YieldsList-from_range 0 m m refl (omega arith)) (λ x q k. search (rules, tests)) (λ x q k. search (rules, tests)) in
+    among_all n t m c.room.ensures c.all.result h

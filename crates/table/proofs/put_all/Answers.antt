@@ -1,20 +1,18 @@
-use Rattle.std.proofs.Common.{refl, ◌∙◌, arith, rules}
-use Rattle.laws.proofs.Tables.{laid_none, laid_then}
-use Rattle.table.proofs.TableLaws.{lent_more, lent_all}
+use Rattle.std.proofs.Common.{◌≡◌, ◌+◌, ◌*◌, length, sym, ◌∙◌, arith}
+use Rattle.std.proofs.Math.ListN.{take}
+use Rattle.std.proofs.Math.Seq.{length-take-le}
+use Rattle.laws.proofs.Tables.{lay_none, lay_lay}
+use Rattle.table.specs.Table.{lent}
+use Rattle.table.proofs.TableLaws.{lent_more}
+use Rattle.table.proofs.LentLaws.{length_lent}
 use Rattle.table.proofs.put_all.Goals as goal
 
 pub loop-i-init : goal.loop-i-init
-loop-i-init c = (search rules, refl, refl, laid_none 0 _)
+loop-i-init c = sym (lay_none 0 c.args.faces.now)
 
 pub loop-i-preserved : goal.loop-i-preserved
 loop-i-preserved c =
-    let l = c.loop-i in
-    let q = c.put_face-at in (
-      search rules,
-      omega (arith, q.ensures.next, l.invariant.1),
-      q.auto.faces ∙ l.invariant.2,
-      rw (lent_more c.args.hull.now l.i (search rules)) (laid_then l.invariant.3 (omega arith) q.ensures),
-    )
-
-pub returns : goal.returns
-returns c = rw (← lent_all c.args.hull.now c.loop-i.i (search rules)) c.loop-i.invariant.3.table
+    let h = c.args.hull.now in
+    let i = c.loop-i.i in
+    let e : i * 3 ≡ 0 + length (lent (take i h)) = omega (arith, length_lent (take i h), length-take-le i h (omega arith)) in
+    c.put_face.ensures ∙ rw (e, c.loop-i.invariant, lay_lay 0 (lent (take i h)) _ c.args.faces.now (omega arith), lent_more h i (omega arith))
