@@ -62,10 +62,8 @@ pub(crate) fn add_marked(
     ensures { Laid start (map (cone k.0) (border seen.now)) table.old result table.new }
 {
     let mut at = start;
-    let mut i: usize = 0;
-    while i < seen.len() {
-        at = add_sides(table, at, marks, w, seen[i], k);
-        i += 1;
+    for &f in seen {
+        at = add_sides(table, at, marks, w, f, k);
     }
     at
 }

@@ -49,10 +49,8 @@ pub(crate) fn mark_all(marks: &mut [u16], w: usize, seen: &[[u16; 3]], k: TouchN
         × ((f : Face) → In f seen.now → CornersIn (λ t. t < w) f) }
     ensures { Marked w k.0 seen.now marks.new × Fresh (k.0 + 1) marks.new }
 {
-    let mut i: usize = 0;
-    while i < seen.len() {
-        mark_sides(marks, w, seen[i], k);
-        i += 1;
+    for &f in seen {
+        mark_sides(marks, w, f, k);
     }
 }
 
