@@ -13,7 +13,7 @@ ghost use Rattle.rules.specs.Demands.{CornersIn};
 ghost use Rattle.border.specs.Marks.{MarkTable, Fresh};
 
 use crate::cone::add_marked;
-use crate::marks::mark_all;
+use crate::marks::Marks;
 use touches::TouchNo;
 
 // Face f at the free place at, if it is wanted: the next free place.
@@ -43,6 +43,10 @@ pub fn add_cone(
     ensures faces { Laid at (map (cone k.0) (border seen.now)) table.old result table.new }
     ensures marks { Fresh (k.0 + 1) marks.new }
 {
-    mark_all(marks, w, seen, k);
-    add_marked(table, at, seen, marks, w, k)
+    let mut marks = Marks {
+        table: marks,
+        width: w,
+    };
+    marks.mark_all(seen, k);
+    add_marked(table, at, seen, &marks, k)
 }

@@ -1,4 +1,4 @@
-use Rattle.std.proofs.Common.{[], refl, ◌∙◌, arith, rules}
+use Rattle.std.proofs.Common.{[], arith, rules}
 use Rattle.laws.proofs.Members.{get_or_in}
 use Rattle.laws.proofs.Tables.{laid_none, laid_then}
 use Rattle.border.specs.Marks.{unmarked}
@@ -12,18 +12,17 @@ pub add_sides-at-requires : goal.add_sides-at-requires
 add_sides-at-requires c =
     let l = c.loop-f in
     let h = c.requires in (
-      h.0,
-      h.2 _ (get_or_in c.args.seen.now l.f-index [] (search rules)),
-      h.3,
-      omega (arith, h.4, l.auto.table, l.invariant.next, cone_room h.1 h.2 l.f-index (search rules)),
+      h.1 _ (get_or_in c.args.seen.now l.f-index [] (search rules)),
+      h.2,
+      omega (arith, h.3, l.auto.table, l.invariant.next, cone_room h.0 h.1 l.f-index (search rules)),
     )
 
 pub loop-f-preserved : goal.loop-f-preserved
 loop-f-preserved c =
     let a = c.args in
+    let m = a.marks.now in
     let l = c.loop-f in
-    let q = c.add_sides-at in
-    rw (cone_more (unmarked a.marks.now a.w a.k.0) a.k.0 a.seen.now l.f-index (search rules)) (laid_then l.invariant (omega (arith, c.requires.4)) q.ensures)
+    rw (cone_more (unmarked m.table.now m.width a.k.0) a.k.0 a.seen.now l.f-index (search rules)) (laid_then l.invariant (omega (arith, c.requires.3)) c.add_sides-at.ensures)
 
 pub returns : goal.returns
-returns c = rw (← cone_all c.requires.1 c.requires.2 c.loop-f.f-index (search rules)) c.loop-f.invariant
+returns c = rw (← cone_all c.requires.0 c.requires.1 c.loop-f.f-index (search rules)) c.loop-f.invariant

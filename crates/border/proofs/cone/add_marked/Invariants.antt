@@ -1,5 +1,4 @@
 -- The loop's invariant: the cone over the sides of the visible faces so far is laid.
-use Rattle.std.proofs.Common.{length}
 use Rattle.std.proofs.Math.ListN.{take}
 use Rattle.laws.specs.Lists.{Laid}
 use Rattle.border.specs.Cone.{cone_on}
@@ -7,4 +6,4 @@ use Rattle.border.specs.Marks.{unmarked}
 use Rattle.border.proofs.cone.add_marked.Given as goal
 
 abbrev pub invariant-loop-f : goal.invariant-loop-f
-invariant-loop-f l = Laid l.start (cone_on (unmarked l.marks l.w l.k.0) l.k.0 (take l.f-index l.seen)) l.initial.table l.at l.table
+invariant-loop-f l = Laid l.start (cone_on (unmarked l.marks.table.now l.marks.width l.k.0) l.k.0 (take l.f-index l.seen)) l.initial.table l.at l.table
