@@ -30,6 +30,7 @@ fn add_side(
 }
 
 // The new faces on the sides of one visible face.
+#[tactic(auto, using(crate::proofs::ConeLaws::face_length))]
 fn add_sides(table: &mut [[u16; 3]], at: usize, marks: &Marks, f: [u16; 3], k: TouchNo) -> usize
     requires { CornersIn (λ t. t < marks.now.width) f × (k.0 < most_touches)
         × (at + length (cone_on (unmarked marks.now.table.now marks.now.width k.0) k.0 (f ∷ [])) ≤ length table.old) }
