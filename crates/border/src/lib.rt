@@ -4,16 +4,16 @@
 mod cone;
 mod marks;
 
-ghost use Rattle.std.specs.Prelude.{map, ◌+◌, ◌<◌, ◌≤◌, length};
+ghost use Rattle.std.specs.Prelude.{◌≡◌, map, ◌+◌, ◌<◌, ◌≤◌, length};
 ghost use Rattle.laws.specs.Lists.{In, only_if, Laid};
 ghost use Rattle.touches.specs.Limits.{most_touches};
 ghost use Rattle.rules.specs.Faces.{Face, border};
 ghost use Rattle.rules.specs.Building.{cone};
 ghost use Rattle.rules.specs.Demands.{CornersIn};
-ghost use Rattle.border.specs.Marks.{MarkTable, Fresh};
+ghost use Rattle.border.specs.Marks.{Fresh};
 
 use crate::cone::add_marked;
-use crate::marks::Marks;
+pub use crate::marks::Marks;
 use touches::TouchNo;
 
 // Face f at the free place at, if it is wanted: the next free place.
@@ -29,25 +29,20 @@ pub fn put(table: &mut [[u16; 3]], at: usize, f: [u16; 3], wanted: bool) -> usiz
     at
 }
 
-// The cone from k over the border of the faces seen, from the free place at on: the next free place. The table of marks is for
-// touches below w, and no mark in it is of k or a later touch.
+// The cone from k over the border of the faces seen, from the free place at on: the next free place. No mark is of k or a later touch.
 pub fn add_cone(
     table: &mut [[u16; 3]],
     at: usize,
     seen: &[[u16; 3]],
-    marks: &mut [u16],
-    w: usize,
+    marks: &mut Marks,
     k: TouchNo,
 ) -> usize
-    requires { MarkTable w marks.old × Fresh k.0 marks.old × ((f : Face) → In f seen.now → CornersIn (λ t. t < w) f)
+    requires { Fresh k.0 marks.old.table.now × ((f : Face) → In f seen.now → CornersIn (λ t. t < marks.old.width) f)
         × (k.0 < most_touches) × (at + length (map (cone k.0) (border seen.now)) ≤ length table.old) }
     ensures faces { Laid at (map (cone k.0) (border seen.now)) table.old result table.new }
-    ensures marks { Fresh (k.0 + 1) marks.new }
+    ensures marks { Fresh (k.0 + 1) marks.new.table.now }
+    ensures width { marks.new.width ≡ marks.old.width }
 {
-    let mut marks = Marks {
-        table: marks,
-        width: w,
-    };
     marks.mark_all(seen, k);
-    add_marked(table, at, seen, &marks, k)
+    add_marked(table, at, seen, marks, k)
 }

@@ -10,9 +10,9 @@ use touches::TouchNo;
 
 // A table of marks for touches below width.
 #[derive(Drop)]
-pub(crate) struct Marks<'a> {
-    pub(crate) table: &'a mut [u16],
-    pub(crate) width: usize,
+pub struct Marks<'a> {
+    table: &'a mut [u16],
+    width: usize,
     ghost fits: { MarkTable width table.now },
 }
 
@@ -24,7 +24,15 @@ fn stamp(k: TouchNo) -> u16
     k.0 + 2
 }
 
-impl Marks<'_> {
+impl<'a> Marks<'a> {
+    pub fn new(table: &'a mut [u16], width: usize) -> Marks<'a>
+        requires { MarkTable width table.old }
+        ensures table { result.table.now ≡ table.old }
+        ensures width { result.width ≡ width }
+    {
+        Marks { table, width }
+    }
+
     // Where the mark of side a→b stands.
     fn place(&self, a: TouchNo, b: TouchNo) -> usize
         requires { (a.0 < self.now.width) × (b.0 < self.now.width) }
@@ -37,7 +45,6 @@ impl Marks<'_> {
     fn mark_side(&mut self, a: TouchNo, b: TouchNo, k: TouchNo)
         requires { (a.0 < self.old.width) × (b.0 < self.old.width) × (k.0 < most_touches) }
         ensures marks { self.new.table.now ≡ mark_side self.old.width k.0 (side a.0 b.0) self.old.table.now }
-        ensures same_table { self.new.table.ghost_name ≡ self.old.table.ghost_name }
         ensures same_width { self.new.width ≡ self.old.width }
     {
         let at = self.place(a, b);
@@ -48,7 +55,6 @@ impl Marks<'_> {
     fn mark_sides(&mut self, f: [u16; 3], k: TouchNo)
         requires { CornersIn (λ t. t < self.old.width) f × (k.0 < most_touches) }
         ensures marks { self.new.table.now ≡ mark_sides self.old.width k.0 (sides_of f) self.old.table.now }
-        ensures same_table { self.new.table.ghost_name ≡ self.old.table.ghost_name }
         ensures same_width { self.new.width ≡ self.old.width }
     {
         self.mark_side(TouchNo(f[0]), TouchNo(f[1]), k);
@@ -62,7 +68,6 @@ impl Marks<'_> {
             × ((f : Face) → In f seen.now → CornersIn (λ t. t < self.old.width) f) }
         ensures marked { Marked self.old.width k.0 seen.now self.new.table.now }
         ensures fresh { Fresh (k.0 + 1) self.new.table.now }
-        ensures same_table { self.new.table.ghost_name ≡ self.old.table.ghost_name }
         ensures same_width { self.new.width ≡ self.old.width }
     {
         for &f in seen {
