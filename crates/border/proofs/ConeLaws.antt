@@ -8,15 +8,14 @@ use native.Mathlib.Omega.{arith}
 use lib.ListN.{length, take, drop, get_or, length-append, take-append-drop}
 use lib.Seq.{take-suc, take_all}
 use Rattle.std.proofs.lemmas.List.{map-append}
-use Rattle.laws.specs.Lists.{In, only_if, put, keep, has, Laid}
+use Rattle.laws.specs.Lists.{only_if, put, keep, has, Laid}
 use Rattle.laws.proofs.Members.{keep_append, keep_ext}
 use Rattle.laws.proofs.Tables.{laid_then}
 use Rattle.rules.specs.Faces.{Face, Side, side, corner, reversed, same_side, sides_of, sides, border}
 use Rattle.rules.specs.Building.{cone}
-use Rattle.rules.specs.Demands.{CornersIn}
 use Rattle.rules.proofs.SideLaws.{in_sides}
 use Rattle.rules.proofs.FaceLaws.{side_corners}
-use Rattle.border.specs.Marks.{Marked, unmarked}
+use Rattle.border.specs.Marks.{FacesOver, Marked, unmarked}
 use Rattle.border.specs.Cone.{cone_side, cone_on}
 
 -- the three sides of a face
@@ -74,7 +73,7 @@ module _ (t : Side → Bool) (k : ℕ) where
   face_laid f b x y z = rw (cone_face f) (laid_then (laid_then x b y) b z)
 
 -- the sides of v whose reverse has no mark are its border
-module _ {v : List Face} {marks : List ℕ} {w k : ℕ} (m : Marked w k v marks) (c : (f : Face) → In f v → CornersIn (λ t. t < w) f) where
+module _ {v : List Face} {marks : List ℕ} {w k : ℕ} (m : Marked w k v marks) (c : FacesOver w v) where
   pub cone_all : (i : ℕ) → length v ≤ i → cone_on (unmarked marks w k) k (take i v) ≡ map (cone k) (border v)
   unfolding cone_on
   cone_all i h =

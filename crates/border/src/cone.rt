@@ -1,11 +1,11 @@
 // The cone over the sides of the visible faces that have no mark on their reverse.
 ghost use Rattle.std.specs.Prelude.{[], ◌∷◌, map, ◌+◌, ◌<◌, ◌≤◌, length};
-ghost use Rattle.laws.specs.Lists.{In, Laid};
+ghost use Rattle.laws.specs.Lists.{Laid};
 ghost use Rattle.touches.specs.Limits.{most_touches};
-ghost use Rattle.rules.specs.Faces.{Face, side, border};
+ghost use Rattle.rules.specs.Faces.{side, border};
 ghost use Rattle.rules.specs.Building.{cone};
 ghost use Rattle.rules.specs.Demands.{CornersIn};
-ghost use Rattle.border.specs.Marks.{Marked, unmarked};
+ghost use Rattle.border.specs.Marks.{FacesOver, Marked, unmarked};
 ghost use Rattle.border.specs.Cone.{cone_side, cone_on};
 
 use crate::marks::Marks;
@@ -36,9 +36,10 @@ fn add_sides(table: &mut [[u16; 3]], at: usize, marks: &Marks, f: [u16; 3], k: T
         × (at + length (cone_on (unmarked marks.now.table.now marks.now.width k.0) k.0 (f ∷ [])) ≤ length table.old) }
     ensures { Laid at (cone_on (unmarked marks.now.table.now marks.now.width k.0) k.0 (f ∷ [])) table.old result table.new }
 {
-    let one = add_side(table, at, marks, TouchNo(f[0]), TouchNo(f[1]), k);
-    let two = add_side(table, one, marks, TouchNo(f[1]), TouchNo(f[2]), k);
-    add_side(table, two, marks, TouchNo(f[2]), TouchNo(f[0]), k)
+    let [a, b, c] = f;
+    let one = add_side(table, at, marks, TouchNo(a), TouchNo(b), k);
+    let two = add_side(table, one, marks, TouchNo(b), TouchNo(c), k);
+    add_side(table, two, marks, TouchNo(c), TouchNo(a), k)
 }
 
 // The cone from k over the border of the visible faces, whose sides are marked.
@@ -49,7 +50,7 @@ pub(crate) fn add_marked(
     marks: &Marks,
     k: TouchNo,
 ) -> usize
-    requires { Marked marks.now.width k.0 seen.now marks.now.table.now × ((f : Face) → In f seen.now → CornersIn (λ t. t < marks.now.width) f)
+    requires { Marked marks.now.width k.0 seen.now marks.now.table.now × FacesOver marks.now.width seen.now
         × (k.0 < most_touches) × (start + length (map (cone k.0) (border seen.now)) ≤ length table.old) }
     ensures { Laid start (map (cone k.0) (border seen.now)) table.old result table.new }
 {

@@ -5,12 +5,11 @@ mod cone;
 mod marks;
 
 ghost use Rattle.std.specs.Prelude.{◌≡◌, map, ◌+◌, ◌<◌, ◌≤◌, length};
-ghost use Rattle.laws.specs.Lists.{In, only_if, Laid};
+ghost use Rattle.laws.specs.Lists.{only_if, Laid};
 ghost use Rattle.touches.specs.Limits.{most_touches};
-ghost use Rattle.rules.specs.Faces.{Face, border};
+ghost use Rattle.rules.specs.Faces.{border};
 ghost use Rattle.rules.specs.Building.{cone};
-ghost use Rattle.rules.specs.Demands.{CornersIn};
-ghost use Rattle.border.specs.Marks.{Fresh};
+ghost use Rattle.border.specs.Marks.{Fresh, FacesOver};
 
 use crate::cone::add_marked;
 pub use crate::marks::Marks;
@@ -37,7 +36,7 @@ pub fn add_cone(
     marks: &mut Marks,
     k: TouchNo,
 ) -> usize
-    requires { Fresh k.0 marks.old.table.now × ((f : Face) → In f seen.now → CornersIn (λ t. t < marks.old.width) f)
+    requires { Fresh k.0 marks.old.table.now × FacesOver marks.old.width seen.now
         × (k.0 < most_touches) × (at + length (map (cone k.0) (border seen.now)) ≤ length table.old) }
     ensures faces { Laid at (map (cone k.0) (border seen.now)) table.old result table.new }
     ensures marks { Fresh (k.0 + 1) marks.new.table.now }

@@ -1,10 +1,9 @@
 // The marks by which the border of the visible faces is found: a table of numbers, one for each directed side.
 ghost use Rattle.std.specs.Prelude.{◌≡◌, ◌+◌, ◌*◌, ◌<◌, ◌≤◌, eqb, get_or, length};
-ghost use Rattle.laws.specs.Lists.{In};
 ghost use Rattle.touches.specs.Limits.{most_touches};
-ghost use Rattle.rules.specs.Faces.{Face, side, sides_of};
+ghost use Rattle.rules.specs.Faces.{side, sides_of};
 ghost use Rattle.rules.specs.Demands.{CornersIn};
-ghost use Rattle.border.specs.Marks.{mark_place, stamp, MarkTable, Fresh, Marked, mark_side, mark_sides};
+ghost use Rattle.border.specs.Marks.{mark_place, stamp, MarkTable, Fresh, FacesOver, Marked, mark_side, mark_sides};
 
 use touches::TouchNo;
 
@@ -25,6 +24,7 @@ fn stamp(k: TouchNo) -> u16
 }
 
 impl<'a> Marks<'a> {
+    // Marks in a table that is lent.
     pub fn new(table: &'a mut [u16], width: usize) -> Marks<'a>
         requires { MarkTable width table.old }
         ensures table { result.table.now ≡ table.old }
@@ -57,15 +57,15 @@ impl<'a> Marks<'a> {
         ensures marks { self.new.table.now ≡ mark_sides self.old.width k.0 (sides_of f) self.old.table.now }
         ensures same_width { self.new.width ≡ self.old.width }
     {
-        self.mark_side(TouchNo(f[0]), TouchNo(f[1]), k);
-        self.mark_side(TouchNo(f[1]), TouchNo(f[2]), k);
-        self.mark_side(TouchNo(f[2]), TouchNo(f[0]), k);
+        let [a, b, c] = f;
+        self.mark_side(TouchNo(a), TouchNo(b), k);
+        self.mark_side(TouchNo(b), TouchNo(c), k);
+        self.mark_side(TouchNo(c), TouchNo(a), k);
     }
 
     // The sides of the visible faces get the mark of touch k, which no side has yet: so the table need not be cleared for it.
     pub(crate) fn mark_all(&mut self, seen: &[[u16; 3]], k: TouchNo)
-        requires { Fresh k.0 self.old.table.now × (k.0 < most_touches)
-            × ((f : Face) → In f seen.now → CornersIn (λ t. t < self.old.width) f) }
+        requires { Fresh k.0 self.old.table.now × (k.0 < most_touches) × FacesOver self.old.width seen.now }
         ensures marked { Marked self.old.width k.0 seen.now self.new.table.now }
         ensures fresh { Fresh (k.0 + 1) self.new.table.now }
         ensures same_width { self.new.width ≡ self.old.width }
