@@ -7,15 +7,15 @@ use native.Mathlib.Numerals.{add-one}
 use native.Mathlib.Omega.{arith}
 use lib.ListN.{length, take, drop, get_or, length-append, take-append-drop}
 use lib.Seq.{take-suc, take_all}
-use Rattle.laws.specs.Lists.{In, only_if, put, keep, has, Laid}
+use Rattle.std.proofs.lemmas.List.{map-append}
+use Rattle.laws.specs.Lists.{only_if, put, keep, has, Laid}
 use Rattle.laws.proofs.Members.{keep_append, keep_ext}
 use Rattle.laws.proofs.Tables.{laid_then}
 use Rattle.rules.specs.Faces.{Face, Side, side, corner, reversed, same_side, sides_of, sides, border}
 use Rattle.rules.specs.Building.{cone}
-use Rattle.rules.specs.Demands.{CornersIn}
 use Rattle.rules.proofs.SideLaws.{in_sides}
 use Rattle.rules.proofs.FaceLaws.{side_corners}
-use Rattle.border.specs.Marks.{Marked, unmarked}
+use Rattle.border.specs.Marks.{FacesOver, Marked, unmarked}
 use Rattle.border.specs.Cone.{cone_side, cone_on}
 
 -- the three sides of a face
@@ -28,10 +28,6 @@ bc f = side (corner f 1) (corner f 2)
 abbrev pub ca : Face → Side
 ca f = side (corner f 2) (corner f 0)
 
-map_append : {A B : Type 0} (g : A → B) (l m : List A) → map g (l ++ m) ≡ map g l ++ map g m
-map_append g [] m = refl
-map_append {A} {B} g (a ∷ l) m = ap (λ (t : List B). g a ∷ t) (map_append g l m)
-
 sides_append : (l m : List Face) → sides (l ++ m) ≡ sides l ++ sides m
 sides_append [] m = refl
 sides_append (f ∷ l) m = ap (λ (t : List Side). sides_of f ++ t) (sides_append l m)
@@ -43,7 +39,7 @@ module _ (t : Side → Bool) (k : ℕ) where
 
   cone_append : (l m : List Face) → cone_on t k (l ++ m) ≡ cone_on t k l ++ cone_on t k m
   unfolding cone_on
-  cone_append l m = ap (λ (s : List Side). map (cone k) (keep t s)) (sides_append l m) ∙ ap (map (cone k)) (keep_append t (sides l) (sides m)) ∙ map_append (cone k) (keep t (sides l)) (keep t (sides m))
+  cone_append l m = ap (λ (s : List Side). map (cone k) (keep t s)) (sides_append l m) ∙ ap (map (cone k)) (keep_append t (sides l) (sides m)) ∙ map-append (cone k) (keep t (sides l)) (keep t (sides m))
 
   -- the three sides of one face
   cone_face : (f : Face) → cone_on t k (f ∷ []) ≡ cone_side t k (ab f) ++ cone_side t k (bc f) ++ cone_side t k (ca f)
@@ -77,7 +73,7 @@ module _ (t : Side → Bool) (k : ℕ) where
   face_laid f b x y z = rw (cone_face f) (laid_then (laid_then x b y) b z)
 
 -- the sides of v whose reverse has no mark are its border
-module _ {v : List Face} {marks : List ℕ} {w k : ℕ} (m : Marked w k v marks) (c : (f : Face) → In f v → CornersIn (λ t. t < w) f) where
+module _ {v : List Face} {marks : List ℕ} {w k : ℕ} (m : Marked w k v marks) (c : FacesOver w v) where
   pub cone_all : (i : ℕ) → length v ≤ i → cone_on (unmarked marks w k) k (take i v) ≡ map (cone k) (border v)
   unfolding cone_on
   cone_all i h =

@@ -16,10 +16,9 @@ use Rattle.laws.specs.Lists.{In, has}
 use Rattle.laws.proofs.Tests.{T-or, is_true, is_false, same_test, and_both, both_and}
 use Rattle.laws.proofs.Members.{here, there}
 use Rattle.rules.specs.Faces.{Face, Side, side, same_side, sides_of, sides}
-use Rattle.rules.specs.Demands.{CornersIn}
 use Rattle.rules.proofs.SideLaws.{in_sides}
 use Rattle.rules.proofs.FaceLaws.{side_corners}
-use Rattle.border.specs.Marks.{mark_place, stamp, MarkTable, Fresh, Marked, mark_side, mark_sides}
+use Rattle.border.specs.Marks.{mark_place, stamp, MarkTable, Fresh, FacesOver, Marked, mark_side, mark_sides}
 
 -- ---- one store
 store_test : (marks : List ℕ) (i j x : ℕ) → i < length marks → eqb (get_or (set marks i x) j 0) x ≡ eqb j i || eqb (get_or marks j 0) x
@@ -70,7 +69,7 @@ module _ (w k : ℕ) where
   face_end v i marks h = rw (drop_of_length-le v h)
 
 module _ {w k : ℕ} {v : List Face} {marks after : List ℕ} (table : MarkTable w marks) (fresh : Fresh k marks)
-    (corners : (f : Face) → In f v → CornersIn (λ t. t < w) f) (e : mark_sides w k (sides v) marks ≡ after) where
+    (corners : FacesOver w v) (e : mark_sides w k (sides v) marks ≡ after) where
   pub all_marked : Marked w k v after
   all_marked = record {
     test = λ a b x y. rw (← e) (

@@ -1,8 +1,9 @@
 -- The marks that touches leave on the sides of the faces they see, in a table that is never cleared.
 use Rattle.std.specs.Prelude.{◌≡◌, Bool, not, List, [], ◌∷◌, ℕ, ◌+◌, ◌*◌, ◌≤◌, ◌<◌, eqb, length, get_or, set}
-use Rattle.laws.specs.Lists.{has}
+use Rattle.laws.specs.Lists.{In, has}
 use Rattle.touches.specs.Limits.{most_touches}
 use Rattle.rules.specs.Faces.{Face, Side, side, same_side, sides}
+use Rattle.rules.specs.Demands.{CornersIn}
 
 -- where the mark of side a→b stands in a table of w times w
 abbrev pub mark_place : ℕ → ℕ → ℕ → ℕ
@@ -20,6 +21,10 @@ pub record MarkTable (w : ℕ) (marks : List ℕ) : Type 0 where
 -- no mark is of touch k or a later one
 pub record Fresh (k : ℕ) (marks : List ℕ) : Type 0 where
   pub old : (j : ℕ) → get_or marks j 0 ≤ k + 1
+
+-- the faces v are over touches below w
+abbrev pub FacesOver : ℕ → List Face → Type 0
+FacesOver w v = (f : Face) → In f v → CornersIn (λ t. t < w) f
 
 -- the sides marked by touch k are those of the faces v
 pub record Marked (w k : ℕ) (v : List Face) (marks : List ℕ) : Type 0 where

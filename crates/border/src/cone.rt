@@ -1,14 +1,14 @@
 // The cone over the sides of the visible faces that have no mark on their reverse.
 ghost use Rattle.std.specs.Prelude.{[], ◌∷◌, map, ◌+◌, ◌<◌, ◌≤◌, length};
-ghost use Rattle.laws.specs.Lists.{In, Laid};
+ghost use Rattle.laws.specs.Lists.{Laid};
 ghost use Rattle.touches.specs.Limits.{most_touches};
-ghost use Rattle.rules.specs.Faces.{Face, side, border};
+ghost use Rattle.rules.specs.Faces.{side, border};
 ghost use Rattle.rules.specs.Building.{cone};
 ghost use Rattle.rules.specs.Demands.{CornersIn};
-ghost use Rattle.border.specs.Marks.{MarkTable, Marked, unmarked};
+ghost use Rattle.border.specs.Marks.{FacesOver, Marked, unmarked};
 ghost use Rattle.border.specs.Cone.{cone_side, cone_on};
 
-use crate::marks::is_marked;
+use crate::marks::Marks;
 use crate::put;
 use touches::TouchNo;
 
@@ -16,36 +16,30 @@ use touches::TouchNo;
 fn add_side(
     table: &mut [[u16; 3]],
     at: usize,
-    marks: &[u16],
-    w: usize,
+    marks: &Marks,
     a: TouchNo,
     b: TouchNo,
     k: TouchNo,
 ) -> usize
-    requires { MarkTable w marks.now × (a.0 < w) × (b.0 < w) × (k.0 < most_touches)
-        × (at + length (cone_side (unmarked marks.now w k.0) k.0 (side a.0 b.0)) ≤ length table.old) }
-    ensures { Laid at (cone_side (unmarked marks.now w k.0) k.0 (side a.0 b.0)) table.old result table.new }
+    requires { (a.0 < marks.now.width) × (b.0 < marks.now.width) × (k.0 < most_touches)
+        × (at + length (cone_side (unmarked marks.now.table.now marks.now.width k.0) k.0 (side a.0 b.0)) ≤ length table.old) }
+    ensures { Laid at (cone_side (unmarked marks.now.table.now marks.now.width k.0) k.0 (side a.0 b.0)) table.old result table.new }
 {
-    let inner = is_marked(marks, w, b, a, k);
+    let inner = marks.is_marked(b, a, k);
     put(table, at, [a.0, b.0, k.0], !inner)
 }
 
 // The new faces on the sides of one visible face.
-fn add_sides(
-    table: &mut [[u16; 3]],
-    at: usize,
-    marks: &[u16],
-    w: usize,
-    f: [u16; 3],
-    k: TouchNo,
-) -> usize
-    requires { MarkTable w marks.now × CornersIn (λ t. t < w) f × (k.0 < most_touches)
-        × (at + length (cone_on (unmarked marks.now w k.0) k.0 (f ∷ [])) ≤ length table.old) }
-    ensures { Laid at (cone_on (unmarked marks.now w k.0) k.0 (f ∷ [])) table.old result table.new }
+#[tactic(auto, using(crate::proofs::ConeLaws::face_length))]
+fn add_sides(table: &mut [[u16; 3]], at: usize, marks: &Marks, f: [u16; 3], k: TouchNo) -> usize
+    requires { CornersIn (λ t. t < marks.now.width) f × (k.0 < most_touches)
+        × (at + length (cone_on (unmarked marks.now.table.now marks.now.width k.0) k.0 (f ∷ [])) ≤ length table.old) }
+    ensures { Laid at (cone_on (unmarked marks.now.table.now marks.now.width k.0) k.0 (f ∷ [])) table.old result table.new }
 {
-    let one = add_side(table, at, marks, w, TouchNo(f[0]), TouchNo(f[1]), k);
-    let two = add_side(table, one, marks, w, TouchNo(f[1]), TouchNo(f[2]), k);
-    add_side(table, two, marks, w, TouchNo(f[2]), TouchNo(f[0]), k)
+    let [a, b, c] = f;
+    let one = add_side(table, at, marks, TouchNo(a), TouchNo(b), k);
+    let two = add_side(table, one, marks, TouchNo(b), TouchNo(c), k);
+    add_side(table, two, marks, TouchNo(c), TouchNo(a), k)
 }
 
 // The cone from k over the border of the visible faces, whose sides are marked.
@@ -53,19 +47,16 @@ pub(crate) fn add_marked(
     table: &mut [[u16; 3]],
     start: usize,
     seen: &[[u16; 3]],
-    marks: &[u16],
-    w: usize,
+    marks: &Marks,
     k: TouchNo,
 ) -> usize
-    requires { MarkTable w marks.now × Marked w k.0 seen.now marks.now × ((f : Face) → In f seen.now → CornersIn (λ t. t < w) f)
+    requires { Marked marks.now.width k.0 seen.now marks.now.table.now × FacesOver marks.now.width seen.now
         × (k.0 < most_touches) × (start + length (map (cone k.0) (border seen.now)) ≤ length table.old) }
     ensures { Laid start (map (cone k.0) (border seen.now)) table.old result table.new }
 {
     let mut at = start;
-    let mut i: usize = 0;
-    while i < seen.len() {
-        at = add_sides(table, at, marks, w, seen[i], k);
-        i += 1;
+    for &f in seen {
+        at = add_sides(table, at, marks, f, k);
     }
     at
 }

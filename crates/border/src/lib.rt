@@ -4,19 +4,19 @@
 mod cone;
 mod marks;
 
-ghost use Rattle.std.specs.Prelude.{map, ◌+◌, ◌<◌, ◌≤◌, length};
-ghost use Rattle.laws.specs.Lists.{In, only_if, Laid};
+ghost use Rattle.std.specs.Prelude.{◌≡◌, map, ◌+◌, ◌<◌, ◌≤◌, length};
+ghost use Rattle.laws.specs.Lists.{only_if, Laid};
 ghost use Rattle.touches.specs.Limits.{most_touches};
-ghost use Rattle.rules.specs.Faces.{Face, border};
+ghost use Rattle.rules.specs.Faces.{border};
 ghost use Rattle.rules.specs.Building.{cone};
-ghost use Rattle.rules.specs.Demands.{CornersIn};
-ghost use Rattle.border.specs.Marks.{MarkTable, Fresh};
+ghost use Rattle.border.specs.Marks.{Fresh, FacesOver};
 
 use crate::cone::add_marked;
-use crate::marks::mark_all;
+pub use crate::marks::Marks;
 use touches::TouchNo;
 
 // Face f at the free place at, if it is wanted: the next free place.
+#[tactic(auto, using(laws::proofs::Tables::laid_one, laws::proofs::Tables::laid_none))]
 pub fn put(table: &mut [[u16; 3]], at: usize, f: [u16; 3], wanted: bool) -> usize
     requires { at + length (only_if wanted f) ≤ length table.old }
     ensures { Laid at (only_if wanted f) table.old result table.new }
@@ -28,21 +28,20 @@ pub fn put(table: &mut [[u16; 3]], at: usize, f: [u16; 3], wanted: bool) -> usiz
     at
 }
 
-// The cone from k over the border of the faces seen, from the free place at on: the next free place. The table of marks is for
-// touches below w, and no mark in it is of k or a later touch.
+// The cone from k over the border of the faces seen, from the free place at on: the next free place. No mark is of k or a later touch.
 pub fn add_cone(
     table: &mut [[u16; 3]],
     at: usize,
     seen: &[[u16; 3]],
-    marks: &mut [u16],
-    w: usize,
+    marks: &mut Marks,
     k: TouchNo,
 ) -> usize
-    requires { MarkTable w marks.old × Fresh k.0 marks.old × ((f : Face) → In f seen.now → CornersIn (λ t. t < w) f)
+    requires { Fresh k.0 marks.old.table.now × FacesOver marks.old.width seen.now
         × (k.0 < most_touches) × (at + length (map (cone k.0) (border seen.now)) ≤ length table.old) }
     ensures faces { Laid at (map (cone k.0) (border seen.now)) table.old result table.new }
-    ensures marks { Fresh (k.0 + 1) marks.new }
+    ensures marks { Fresh (k.0 + 1) marks.new.table.now }
+    ensures width { marks.new.width ≡ marks.old.width }
 {
-    mark_all(marks, w, seen, k);
-    add_marked(table, at, seen, marks, w, k)
+    marks.mark_all(seen, k);
+    add_marked(table, at, seen, marks, k)
 }

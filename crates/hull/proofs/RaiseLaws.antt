@@ -25,7 +25,7 @@ use Rattle.hull.specs.Build.{hull_of}
 use Rattle.hull.specs.Whole.{Planed}
 use Rattle.hull.specs.Inner.{Ready, Begun, Taken, Tables}
 use Rattle.hull.proofs.OtherLaws.{Next, next_first, next_after, next_within}
-use Rattle.hull.proofs.StepLaws.{marks_kept}
+use Rattle.border.specs.declared.marks.Marks.{Marks}
 use Rattle.hull.specs.declared.start.Start.{Start}
 use Rattle.hull.specs.declared.start.Started.TheVariants.{Flat, From}
 
@@ -50,7 +50,7 @@ module _ {cs : List ℤ} {s : Four} {k m : ℕ} {table : List Face} {planes : Li
     step_is : step (touch cs) (take m table) k ≡ after (touch cs) s (others s (k + 1))
     step_is = ap (λ (h : List Face). step (touch cs) h k) t.faces ∙ sym (after_step (touch cs) s k e)
 
-    pub step_room : {seen : List Face} {marks : List ℕ} → Begun cs s → k < touch_count cs → Tables cs table planes seen marks → length (step (touch cs) (take m table) k) ≤ length table
+    pub step_room : {seen : List Face} {marks : Marks} → Begun cs s → k < touch_count cs → Tables cs table planes seen marks → length (step (touch cs) (take m table) k) ≤ length table
     step_room b l w = omega (arith, ap length step_is, after_room b {k = k + 1} (omega arith), w.room)
 
     pub taken_step : {r : ℕ} {next : List Face} {beside : List (List ℤ)} → Laid 0 (step (touch cs) (take m table) k) table r next → Planed cs r next beside → Taken cs s (k + 1) r next beside
@@ -84,13 +84,13 @@ module _ {cs : List ℤ} {s : Four} (b : Begun cs s) where
   begun_within h l = let o = start_order (touch cs) (touch_count cs) b.begins in next_within s (omega (arith, o)) (omega (arith, o)) (omega (arith, o)) (omega (arith, o)) h l
 
 -- tables that building works in have room for the faces that are taken
-pub taken_room : {cs : List ℤ} {s : Four} {k m : ℕ} {table after seen : List Face} {planes beside : List (List ℤ)} {marks : List ℕ} → Begun cs s → Tables cs table planes seen marks → Taken cs s k m after beside → k ≤ touch_count cs → m ≤ length table
+pub taken_room : {cs : List ℤ} {s : Four} {k m : ℕ} {table after seen : List Face} {planes beside : List (List ℤ)} {marks : Marks} → Begun cs s → Tables cs table planes seen marks → Taken cs s k m after beside → k ≤ touch_count cs → m ≤ length table
 taken_room b w t l = omega (arith, t.count, after_room b l, w.room)
 
 -- the tables keep their lengths
-pub tables_kept : {cs : List ℤ} {table table' seen seen' : List Face} {planes planes' : List (List ℤ)} {marks marks' : List ℕ} → Tables cs table planes seen marks
-    → length table' ≡ length table → length planes' ≡ length planes → length seen' ≡ length seen → length marks' ≡ length marks → Tables cs table' planes' seen' marks'
-tables_kept t a b c d = record { room = omega (arith, t.room, a); planes_long = omega (arith, t.planes_long, a, b); seen_long = omega (arith, t.seen_long, a, c); mark_table = marks_kept t.mark_table d }
+pub tables_kept : {cs : List ℤ} {table table' seen seen' : List Face} {planes planes' : List (List ℤ)} {marks marks' : Marks} → Tables cs table planes seen marks
+    → length table' ≡ length table → length planes' ≡ length planes → length seen' ≡ length seen → marks'.width ≡ marks.width → Tables cs table' planes' seen' marks'
+tables_kept t a b c d = record { room = omega (arith, t.room, a); planes_long = omega (arith, t.planes_long, a, b); seen_long = omega (arith, t.seen_long, a, c); mark_width = d ∙ t.mark_width }
 
 -- ---- the start
 start_some : (o : Option Four) {f : Start} → From f ≡ started_of o → o ≡ some (start_of f)
@@ -115,7 +115,7 @@ module _ (cs : List ℤ) {n : ℕ} (c : n ≡ touch_count cs) where
 pub known_start : {cs : List ℤ} (f : Start) → Begun cs (start_of f) → KnownStart (touch_count cs) f
 known_start {cs} f b = let o = start_order (touch cs) (touch_count cs) b.begins in record { p = omega (arith, o); q = omega (arith, o); r = omega (arith, o); s = omega (arith, o) }
 
-pub start_room : {cs : List ℤ} {s : Four} {table seen : List Face} {planes : List (List ℤ)} {marks : List ℕ} → Begun cs s → Tables cs table planes seen marks → 4 ≤ length table
+pub start_room : {cs : List ℤ} {s : Four} {table seen : List Face} {planes : List (List ℤ)} {marks : Marks} → Begun cs s → Tables cs table planes seen marks → 4 ≤ length table
 unfolding build
 start_room b w = omega (arith, after_room b {k = 0} (omega arith), w.room)
 

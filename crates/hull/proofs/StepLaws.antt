@@ -16,7 +16,6 @@ use Rattle.rules.specs.Building.{cone, seen, unseen, step}
 use Rattle.rules.specs.Demands.{CornersIn, FaceOf}
 use Rattle.rules.proofs.FaceLaws.{corners_map}
 use Rattle.rules.proofs.StepLaws.{step_corners}
-use Rattle.border.specs.Marks.{MarkTable}
 use Rattle.points.specs.Whole.{plane_on}
 use Rattle.hull.specs.Whole.{Planed}
 use Rattle.hull.specs.Inner.{Ready, PartOf}
@@ -55,6 +54,3 @@ step_faces {cs} {h} {k} {r} {old} {after} d g j l =
 -- the planes of the faces before the place that was laid at are theirs still
 pub planed_before : {cs : List ℤ} {m r : ℕ} {new mid after : List Face} {planes : List (List ℤ)} → Planed cs m mid planes → Laid m new mid r after → m ≤ length mid → Planed cs m after planes
 planed_before {cs} p g b = record { each = λ j l. record { is = (p.each j l).is ∙ ap (plane_on (touch cs)) (sym (laid_before g b j [] l)) } }
-
-pub marks_kept : {w : ℕ} {marks after : List ℕ} → MarkTable w marks → length after ≡ length marks → MarkTable w after
-marks_kept t e = record { few = t.few; room = omega (arith, t.room, e) }

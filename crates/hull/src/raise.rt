@@ -7,6 +7,7 @@ ghost use Rattle.hull.specs.Inner.{Begun, Taken, Tables};
 use crate::start::{Start, next_other, put_start};
 use crate::step::step;
 use crate::whole::put_planes;
+use border::Marks;
 use touches::TouchNo;
 
 // The hull of the touches at the front of the table, with its planes: the face count. Every touch that is not of the start is taken,
@@ -15,12 +16,12 @@ pub(crate) fn raise(
     table: &mut [[u16; 3]],
     planes: &mut [[i64; 4]],
     seen: &mut [[u16; 3]],
-    marks: &mut [u16],
+    marks: &mut Marks,
     coords: &[i32],
     s: Start,
 ) -> usize
     requires { Begun coords.now (start_of s) × Tables coords.now table.old planes.old seen.old marks.old
-        × Fresh 0 marks.old }
+        × Fresh 0 marks.old.table.now }
     ensures { Taken coords.now (start_of s) (touch_count coords.now) result table.new planes.new }
 {
     let n = coords.len() / 3;

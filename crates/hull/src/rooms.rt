@@ -7,6 +7,7 @@ ghost use Rattle.hull.specs.Inner.{Begun, Tables, Builds};
 use crate::build::{Built, write_hull};
 use crate::raise::raise;
 use crate::start::Start;
+use border::Marks;
 use touches::TouchList;
 
 // How many touches the small tables are for. A table is filled before it is used, and these are a twentieth of the large ones.
@@ -25,12 +26,12 @@ fn build_in(
     table: &mut [[u16; 3]],
     planes: &mut [[i64; 4]],
     seen: &mut [[u16; 3]],
-    marks: &mut [u16],
+    marks: &mut Marks,
     coords: &[i32],
     s: Start,
 ) -> Built
     requires { Begun coords.now (start_of s) × Tables coords.now table.old planes.old seen.old marks.old
-        × Fresh 0 marks.old }
+        × Fresh 0 marks.old.table.now }
     ensures { Builds coords.now (hull_of coords.now) faces.old result faces.new }
 {
     let m = raise(table, planes, seen, marks, coords, s);
@@ -45,7 +46,8 @@ fn build_many(faces: &mut [u16], coords: &[i32], s: Start) -> Built
     let mut table = [[0u16; 3]; TouchList::ENOUGH_FACES];
     let mut planes = [NO_PLANE; TouchList::ENOUGH_FACES];
     let mut seen = [[0u16; 3]; TouchList::ENOUGH_FACES];
-    let mut marks = [NO_MARK; TouchList::MOST * TouchList::MOST];
+    let mut room = [NO_MARK; TouchList::MOST * TouchList::MOST];
+    let mut marks = Marks::new(&mut room, coords.len() / 3);
     build_in(
         faces,
         &mut table,
@@ -68,7 +70,8 @@ pub(crate) fn build_from(faces: &mut [u16], coords: &[i32], s: Start) -> Built
     let mut table = [[0u16; 3]; FEW_FACES];
     let mut planes = [NO_PLANE; FEW_FACES];
     let mut seen = [[0u16; 3]; FEW_FACES];
-    let mut marks = [NO_MARK; FEW * FEW];
+    let mut room = [NO_MARK; FEW * FEW];
+    let mut marks = Marks::new(&mut room, coords.len() / 3);
     build_in(
         faces,
         &mut table,

@@ -8,7 +8,7 @@ ghost use Rattle.hull.specs.Whole.{Planed};
 ghost use Rattle.hull.specs.Inner.{Ready, PartOf, Tables};
 
 use crate::whole::{first_in_front, in_front, put_planes};
-use border::{add_cone, put};
+use border::{Marks, add_cone, put};
 use points::touch::touch;
 use touches::TouchNo;
 
@@ -71,22 +71,22 @@ pub(crate) fn step(
     table: &mut [[u16; 3]],
     planes: &mut [[i64; 4]],
     seen: &mut [[u16; 3]],
-    marks: &mut [u16],
+    marks: &mut Marks,
     coords: &[i32],
     n: usize,
     k: TouchNo,
 ) -> usize
     requires { Ready coords.now (take n table.old) k.0 × Planed coords.now n table.old planes.old
-        × Tables coords.now table.old planes.old seen.old marks.old × Fresh k.0 marks.old × (n ≤ length table.old)
+        × Tables coords.now table.old planes.old seen.old marks.old × Fresh k.0 marks.old.table.now × (n ≤ length table.old)
         × (length (step (touch coords.now) (take n table.old) k.0) ≤ length table.old) }
     ensures faces { Laid 0 (step (touch coords.now) (take n table.old) k.0) table.old result table.new }
     ensures planes { Planed coords.now result table.new planes.new }
-    ensures marks { Fresh (k.0 + 1) marks.new }
+    ensures marks { Fresh (k.0 + 1) marks.new.table.now }
+    ensures width { marks.new.width ≡ marks.old.width }
 {
-    let w = coords.len() / 3;
     let p = part(table, planes, seen, coords, n, k);
     let m = p.seen;
-    let r = add_cone(table, p.kept, &seen[..m], marks, w, k);
+    let r = add_cone(table, p.kept, &seen[..m], marks, k);
     put_planes(planes, table, coords, p.kept, r);
     r
 }

@@ -44,7 +44,7 @@ loop-k-preserved c =
       q.auto.table ∙ l.invariant.1,
       q.auto.planes ∙ l.invariant.2,
       q.auto.seen ∙ l.invariant.3,
-      q.auto.marks ∙ l.invariant.4,
+      q.ensures.width ∙ l.invariant.4,
       taken_next (taken_step l.invariant.5 l.invariant.7 q.ensures.faces q.ensures.planes) o,
       fresh_later q.ensures.marks o.skips.from,
       o.here,

@@ -8,8 +8,8 @@ use Rattle.hull.proofs.raise.raise.Given as goal
 
 abbrev pub invariant-loop-k : goal.invariant-loop-k
 invariant-loop-k l =
-    (l.k ≤ l.n) × (length l.table ≡ length l.initial.table) × (length l.planes ≡ length l.initial.planes) × (length l.seen ≡ length l.initial.seen) × (length l.marks ≡ length l.initial.marks)
-    × Taken l.coords (start_of l.s) l.k l.m l.table l.planes × Fresh l.k l.marks × (is_start (start_of l.s) l.k ≡ false)
+    (l.k ≤ l.n) × (length l.table ≡ length l.initial.table) × (length l.planes ≡ length l.initial.planes) × (length l.seen ≡ length l.initial.seen) × (l.marks.width ≡ l.initial.marks.width)
+    × Taken l.coords (start_of l.s) l.k l.m l.table l.planes × Fresh l.k l.marks.table.now × (is_start (start_of l.s) l.k ≡ false)
 
 abbrev pub decreases-loop-k : goal.decreases-loop-k
 decreases-loop-k l = l.n - l.k

@@ -3,8 +3,11 @@ use lib.Dec.{lit≤}
 use Rattle.hull.proofs.BuildLaws.{marks_for, fresh_ones}
 use Rattle.hull.proofs.rooms.build_from.Goals as goal
 
+pub new-marks-requires : goal.new-marks-requires
+new-marks-requires c = let h = c.requires in marks_for h.sound (c.if-coords-gt-FEW.false) (lit≤ tt)
+
 pub build_in-requires : goal.build_in-requires
 build_in-requires c =
     let h = c.requires in
     let few = c.if-coords-gt-FEW.false in
-    (h, record { room = omega (arith, few); planes_long = refl; seen_long = refl; mark_table = marks_for h.sound few (lit≤ tt) }, fresh_ones _ tt)
+    (h, record { room = omega (arith, few); planes_long = refl; seen_long = refl; mark_width = c.new-marks.ensures.width }, rw c.new-marks.ensures.table (fresh_ones _ tt))

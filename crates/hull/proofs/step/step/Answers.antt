@@ -8,9 +8,8 @@ pub add_cone-r-requires : goal.add_cone-r-requires
 add_cone-r-requires c =
     let q = c.part-p in
     let h = c.requires in (
-      h.2.mark_table,
       h.3,
-      front_faces q.ensures.faces (omega arith) h.0,
+      front_faces q.ensures.faces (omega (arith, h.2.mark_width)) h.0,
       omega (arith, h.0.touch, accepted_few h.0.sound),
       cone_room q.ensures.faces (omega (arith, h.5, q.auto.table)),
     )
