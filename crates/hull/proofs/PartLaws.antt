@@ -1,5 +1,5 @@
 -- Parting a table of faces, with their planes, into those that q is in front of and the others, a face a turn.
-use mathlib.Core.Path.{◌≡◌, refl, sym, ap, ap₂, subst, ◌∙◌}
+use mathlib.Core.Path.{◌≡◌, refl, sym, ap, ap₂, ◌∙◌}
 use mathlib.Core.Bool.{Bool, true, false, not}
 use mathlib.Core.List.{List, [], ◌++◌}
 use Prim.Native.Nat.{ℕ, ◌+◌, ◌<◌, ◌≤◌}
@@ -8,6 +8,8 @@ use lib.IntN.{ℤ, pos}
 use lib.ListN.{length, take, get_or, length-append}
 use lib.Signed.{lt_z}
 use lib.Seq.{get_or-take, length-take-le}
+use Rattle.std.specs.Prelude.{Some, None, position, All}
+use Rattle.std.proofs.lemmas.List.Elements.{All-from_get_or}
 use Rattle.laws.specs.Lists.{only_if, keep, lay, Laid}
 use Rattle.laws.proofs.Members.{get_or_in}
 use Rattle.laws.proofs.Tables.{lay_none, laid_none, laid_prefix, laid_past, laid_take, laid_keep, keep_more, keep_first, keep_no_first, length_only, length_keep_take}
@@ -18,8 +20,8 @@ use Rattle.rules.specs.Building.{seen, unseen}
 use Rattle.rules.specs.Demands.{FaceOf}
 use Rattle.points.specs.Whole.{PlaneNear}
 use Rattle.hull.specs.Inner.{in_front, Ready, PartOf}
-use Rattle.hull.specs.Whole.{read_at, FirstFront, PlanedAt, Planed}
-use Rattle.hull.proofs.WholeLaws.{read_is, planed_near, put_apart, put_planed}
+use Rattle.hull.specs.Whole.{read_at, PlanedAt, Planed}
+use Rattle.hull.proofs.WholeLaws.{read_is, planed_near, put_apart, put_planed, front_nowhere, front_at}
 
 abbrev behind : List ℤ → Point → Face → Bool
 behind cs q f = not (in_front cs q f)
@@ -32,8 +34,10 @@ module _ {cs : List ℤ} {faces : List Face} {planes : List (List ℤ)} {j : ℕ
 face_of : {cs : List ℤ} (faces : List Face) (n : ℕ) {k : ℕ} → Ready cs (take n faces) k → n ≤ length faces → (j : ℕ) → j < n → FaceOf cs (get_or faces j [])
 face_of faces n r l j h = rw (← get_or-take n faces j [] h) (r.faces (get_or (take n faces) j []) (get_or_in (take n faces) j [] (omega (arith, length-take-le n faces l))))
 
-pub planes_near : {cs : List ℤ} {faces : List Face} {planes : List (List ℤ)} {n k : ℕ} → Planed cs n faces planes → Ready cs (take n faces) k → n ≤ length faces → (j : ℕ) → j < n → PlaneNear (get_or planes j [])
-planes_near {faces = faces} {n = n} p r l j h = planed_near (p.each j h) r.sound (face_of faces n r l j h)
+pub planes_near : {cs : List ℤ} {faces : List Face} {planes : List (List ℤ)} {n k : ℕ} → Planed cs n faces planes → Ready cs (take n faces) k → n ≤ length faces → n ≤ length planes → All PlaneNear (take n planes)
+planes_near {faces = faces} {planes = planes} {n = n} p r l b =
+    let s : length (take n planes) ≡ n = length-take-le n planes b in
+    All-from_get_or PlaneNear (take n planes) [] (λ j c. let h : j < n = omega arith in rw (get_or-take n planes j [] h) (planed_near (p.each j h) r.sound (face_of faces n r l j h)))
 
 -- after the first i of the faces from: m of them are in the table kept, with their planes, and s in the table front
 pub record Parting (cs : List ℤ) (q : Point) (n : ℕ) (from kept front : List Face) (planes : List (List ℤ)) (m s i : ℕ) : Type 0 where
@@ -48,23 +52,23 @@ pub record Parting (cs : List ℤ) (q : Point) (n : ℕ) (from kept front : List
   pub rest : (j : ℕ) → i ≤ j → j < n → PlanedAt cs kept planes j
 
 -- the faces before the first that q is in front of are in their places
-module _ {cs : List ℤ} {q : Point} {n : ℕ} {from : List Face} {planes : List (List ℤ)} {i : ℕ} (a : n ≤ length from) (b : n ≤ length planes) (p : Planed cs n from planes) (h : FirstFront planes n q i)
-    (front : List Face) (l : n ≤ length front) where
+module _ {cs : List ℤ} {n : ℕ} {from : List Face} {planes : List (List ℤ)} {i : ℕ} (a : n ≤ length from) (b : n ≤ length planes) (p : Planed cs n from planes) (w : i ≤ n)
+    (q : Point) (h : (j : ℕ) → j < i → lt_z (read_at (get_or planes j []) q) (pos 0) ≡ false) (front : List Face) (l : n ≤ length front) where
   before : (j : ℕ) → j < i → in_front cs q (get_or from j []) ≡ false
-  before j c = sym (front_read (p.each j (omega (arith, h.within))) q) ∙ h.before j c
+  before j c = sym (front_read (p.each j (omega arith)) q) ∙ h j c
 
   pub parting_none : Parting cs q n from from front planes i 0 i
   parting_none =
-      let e : keep (in_front cs q) (take i from) ≡ [] = keep_no_first (in_front cs q) from [] i (omega (arith, h.within)) before in
+      let e : keep (in_front cs q) (take i from) ≡ [] = keep_no_first (in_front cs q) from [] i (omega arith) before in
       record {
-        within = h.within;
+        within = w;
         kept_long = refl;
         front_long = l;
         planes_long = b;
-        stay = rw (keep_first (behind cs q) from [] i (omega (arith, h.within)) (λ j c. ap not (before j c))) (laid_prefix i from (omega (arith, h.within)));
+        stay = rw (keep_first (behind cs q) from [] i (omega arith) (λ j c. ap not (before j c))) (laid_prefix i from (omega arith));
         gone = sym e;
         count = ap length (sym e);
-        planed = record { each = λ j c. p.each j (omega (arith, h.within)) };
+        planed = record { each = λ j c. p.each j (omega arith) };
         rest = λ j c d. p.each j d;
       }
 
@@ -123,10 +127,12 @@ module _ {cs : List ℤ} {q : Point} {n : ℕ} {from kept front : List Face} {pl
       let l : n ≡ i = omega (arith, g.within) in
       rw l (record { stay = rw e at g.stay; gone = rw e at g.gone; count = rw e at g.count })
 
--- the first of them goes to the front
-module _ {cs : List ℤ} {q : Point} {n : ℕ} {from : List Face} {planes : List (List ℤ)} {i : ℕ} (a : n ≤ length from) (b : n ≤ length planes) (p : Planed cs n from planes) (h : FirstFront planes n q i) where
-  pub parting_first : i < n → {front front' : List Face} {s : ℕ} → n ≤ length front → Laid 0 (only_if true (get_or from i [])) front s front' → length front' ≡ length front → Parting cs q n from from front' planes i s (i + 1)
-  parting_first l {front} c g z = parting_more (parting_none a b p h front c) l a (sym (h.here l)) (sym (lay_none i planes)) refl (laid_none i from) refl g z
+-- the first of them goes to the front, if there is one
+module _ {cs : List ℤ} (q : Point) {n : ℕ} {from : List Face} {planes : List (List ℤ)} (a : n ≤ length from) (b : n ≤ length planes) (p : Planed cs n from planes) (front : List Face) (l : n ≤ length front) where
+  pub parting_first : {i : ℕ} → Some i ≡ position (λ w. lt_z (read_at w q) (pos 0)) (take n planes) → {front' : List Face} {s : ℕ} → Laid 0 (only_if true (get_or from i [])) front s front' → length front' ≡ length front → Parting cs q n from from front' planes i s (i + 1)
+  parting_first {i} e g z =
+      let f = front_at planes q b e in
+      parting_more (parting_none a b p (omega (arith, f.0)) q f.2 front l) f.0 a (sym f.1) (sym (lay_none i planes)) refl (laid_none i from) refl g z
 
-  pub parting_nothing : i ≡ n → {k : ℕ} → q ≡ touch cs k → (front : List Face) → n ≤ length front → PartOf cs (take n from) k from n from 0 front
-  parting_nothing e {k} t front c = subst (λ (j : ℕ). PartOf cs (take n from) k from j from 0 front) e (parting_all (parting_none a b p h front c) t (omega arith))
+  pub parting_nothing : None ≡ position (λ w. lt_z (read_at w q) (pos 0)) (take n planes) → {k : ℕ} → q ≡ touch cs k → PartOf cs (take n from) k from n from 0 front
+  parting_nothing e t = parting_all (parting_none a b p (omega arith) q (front_nowhere planes q b e) front l) t (omega arith)

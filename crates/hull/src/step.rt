@@ -46,21 +46,18 @@ fn part(
     ensures planes { Planed coords.now result.kept table.new planes.new }
 {
     let q = touch(coords, k);
-    let first = first_in_front(planes, n, q);
-    if first == n {
+    let Some(first) = first_in_front(&planes[..n], q) else {
         return Parted { kept: n, seen: 0 };
-    }
+    };
     let mut m = first;
     let mut s = put(seen, 0, table[first], true);
-    let mut i = first + 1;
-    while i < n {
+    for i in first + 1..n {
         let f = table[i];
         let p = planes[i];
         let v = in_front(p, q);
         put_plane(planes, m, p, !v);
         m = put(table, m, f, !v);
         s = put(seen, s, f, v);
-        i += 1;
     }
     Parted { kept: m, seen: s }
 }

@@ -3,17 +3,16 @@ use mathlib.Core.Bool.{not}
 use Rattle.hull.proofs.PartLaws.{planes_near, parting_near, planes_place, kept_room, front_room, parting_more, parting_all, parting_first, parting_nothing}
 use Rattle.hull.proofs.step.part.Goals as goal
 
-pub first_in_front-first-requires : goal.first_in_front-first-requires
-first_in_front-first-requires c = let h = c.requires in (h.3, planes_near h.1 h.0 h.2, c.touch-q.ensures.small)
+pub first_in_front-requires : goal.first_in_front-requires
+first_in_front-requires c = let h = c.requires in (planes_near h.1 h.0 h.2 h.3, c.touch-q.ensures.small)
 
-pub returns-then-first-n-clause-faces : goal.returns-then-first-n-clause-faces
-returns-then-first-n-clause-faces c = let h = c.requires in parting_nothing h.2 h.3 h.1 c.first_in_front-first.ensures c.if-first-n.true c.touch-q.ensures.is c.args.seen.now h.4
+pub returns-in_default-clause-faces : goal.returns-in_default-clause-faces
+returns-in_default-clause-faces c = let h = c.requires in parting_nothing c.touch-q.result h.2 h.3 h.1 c.args.seen.now h.4 c.in_default.ensures c.touch-q.ensures.is
 
 pub loop-i-init : goal.loop-i-init
 loop-i-init c =
     let h = c.requires in
-    let f = c.first_in_front-first in
-    (refl, refl, parting_first h.2 h.3 h.1 f.ensures (omega (arith, c.if-first-n.false, f.ensures.within)) h.4 c.put-s.ensures c.put-s.auto.table)
+    (refl, refl, parting_first c.touch-q.result h.2 h.3 h.1 c.args.seen.now h.4 c.in-Some.ensures c.put-s.ensures c.put-s.auto.table)
 
 pub in_front-v-requires : goal.in_front-v-requires
 in_front-v-requires c = (parting_near c.loop-i.invariant.2 (search rules) c.requires.2 c.requires.0, c.touch-q.ensures.small)
