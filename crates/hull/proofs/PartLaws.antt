@@ -5,14 +5,15 @@ use mathlib.Core.List.{List, [], ◌++◌}
 use Prim.Native.Nat.{ℕ, ◌+◌, ◌<◌, ◌≤◌}
 use native.Mathlib.Omega.{arith}
 use lib.IntN.{ℤ, pos}
-use lib.ListN.{length, take, get_or, length-append}
+use lib.ListN.{length, take, get_or, set, length-append}
 use lib.Signed.{lt_z}
 use lib.Seq.{get_or-take, length-take-le}
+use Rattle.std.proofs.Common.{length-set}
 use Rattle.std.specs.Prelude.{Some, None, position, All}
 use Rattle.std.proofs.lemmas.List.Elements.{All-from_get_or}
 use Rattle.laws.specs.Lists.{only_if, keep, lay, Laid}
 use Rattle.laws.proofs.Members.{get_or_in}
-use Rattle.laws.proofs.Tables.{lay_none, laid_none, laid_prefix, laid_past, laid_take, laid_keep, keep_more, keep_first, keep_no_first, length_only, length_keep_take}
+use Rattle.laws.proofs.Tables.{lay_none, lay_one, laid_none, laid_one, laid_prefix, laid_past, laid_take, laid_keep, keep_more, keep_first, keep_no_first, length_keep_take}
 use Rattle.touches.specs.declared.Point.{Point}
 use Rattle.touches.specs.Touches.{touch}
 use Rattle.rules.specs.Faces.{Face, visible}
@@ -84,22 +85,19 @@ module _ {cs : List ℤ} {q : Point} {n : ℕ} {from kept front : List Face} {pl
     pub parting_near : {k : ℕ} → Ready cs (take n from) k → PlaneNear (get_or planes i [])
     parting_near r = planed_near (g.rest i (omega arith) h) r.sound (rw next_face (face_of from n r e i h))
 
-    pub kept_place : m < length kept
+    kept_place : m < length kept
     kept_place = omega (arith, kept_few, g.kept_long)
 
-    pub planes_place : m < length planes
+    planes_place : m < length planes
     planes_place = omega (arith, kept_few, g.planes_long)
-
-    pub kept_room : (x : Bool) (f : Face) → m + length (only_if x f) ≤ length kept
-    kept_room x f = omega (arith, kept_place, length_only x f)
 
     front_few : s ≤ i
     front_few = omega (arith, g.count, length_keep_take (in_front cs q) from i)
 
-    pub front_room : (x : Bool) (f : Face) → s + length (only_if x f) ≤ length front
-    front_room x f = omega (arith, front_few, length_only x f, g.front_long)
+    front_place : s < length front
+    front_place = omega (arith, front_few, g.front_long)
 
-    pub parting_more : {kept' front' : List Face} {planes' : List (List ℤ)} {m' s' : ℕ} {x : Bool} → x ≡ lt_z (read_at (get_or planes i []) q) (pos 0)
+    parting_more : {kept' front' : List Face} {planes' : List (List ℤ)} {m' s' : ℕ} {x : Bool} → x ≡ lt_z (read_at (get_or planes i []) q) (pos 0)
         → planes' ≡ lay m (only_if (not x) (get_or planes i [])) planes → length planes' ≡ length planes
         → Laid m (only_if (not x) (get_or kept i [])) kept m' kept' → length kept' ≡ length kept
         → Laid s (only_if x (get_or kept i [])) front s' front' → length front' ≡ length front → Parting cs q n from kept' front' planes' m' s' (i + 1)
@@ -121,6 +119,15 @@ module _ {cs : List ℤ} {q : Point} {n : ℕ} {from kept front : List Face} {pl
           rest = λ j f y. rw (w, a.table) (put_apart (get_or kept i []) (get_or planes i []) kept_place planes_place (not x) (λ r. absurd (omega (arith, r, kept_few))) (g.rest j (omega arith) y));
         }
 
+    -- it goes to the faces seen
+    pub parting_seen : lt_z (read_at (get_or planes i []) q) (pos 0) ≡ true → Parting cs q n from kept (set front s (get_or kept i [])) planes m (s + 1) (i + 1)
+    parting_seen t = parting_more (sym t) (sym (lay_none m planes)) refl (laid_none m kept) refl (laid_one s (get_or kept i []) front front_place) (length-set front s (get_or kept i []))
+
+    -- or stays, with its plane
+    pub parting_kept : lt_z (read_at (get_or planes i []) q) (pos 0) ≡ false → Parting cs q n from (set kept m (get_or kept i [])) front (set planes m (get_or planes i [])) (m + 1) s (i + 1)
+    parting_kept t =
+        parting_more (sym t) (sym (lay_one m (get_or planes i []) planes planes_place)) (length-set planes m (get_or planes i [])) (laid_one m (get_or kept i []) kept kept_place) (length-set kept m (get_or kept i [])) (laid_none s front) refl
+
   pub parting_all : {k : ℕ} → q ≡ touch cs k → n ≤ i → PartOf cs (take n from) k from m kept s front
   unfolding seen unseen visible
   parting_all {k} e h =
@@ -129,10 +136,10 @@ module _ {cs : List ℤ} {q : Point} {n : ℕ} {from kept front : List Face} {pl
 
 -- the first of them goes to the front, if there is one
 module _ {cs : List ℤ} (q : Point) {n : ℕ} {from : List Face} {planes : List (List ℤ)} (a : n ≤ length from) (b : n ≤ length planes) (p : Planed cs n from planes) (front : List Face) (l : n ≤ length front) where
-  pub parting_first : {i : ℕ} → Some i ≡ position (λ w. lt_z (read_at w q) (pos 0)) (take n planes) → {front' : List Face} {s : ℕ} → Laid 0 (only_if true (get_or from i [])) front s front' → length front' ≡ length front → Parting cs q n from from front' planes i s (i + 1)
-  parting_first {i} e g z =
+  pub parting_first : {i : ℕ} → Some i ≡ position (λ w. lt_z (read_at w q) (pos 0)) (take n planes) → Parting cs q n from from (set front 0 (get_or from i [])) planes i 1 (i + 1)
+  parting_first {i} e =
       let f = front_at planes q b e in
-      parting_more (parting_none a b p (omega (arith, f.0)) q f.2 front l) f.0 a (sym f.1) (sym (lay_none i planes)) refl (laid_none i from) refl g z
+      parting_seen (parting_none a b p (omega (arith, f.0)) q f.2 front l) f.0 a f.1
 
   pub parting_nothing : None ≡ position (λ w. lt_z (read_at w q) (pos 0)) (take n planes) → {k : ℕ} → q ≡ touch cs k → PartOf cs (take n from) k from n from 0 front
   parting_nothing e t = parting_all (parting_none a b p (omega arith) q (front_nowhere planes q b e) front l) t (omega arith)

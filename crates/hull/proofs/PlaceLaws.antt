@@ -23,10 +23,8 @@ use Rattle.laws.proofs.Members.{in_get_or}
 use Rattle.laws.proofs.Turns.{first_turn, first_none_left}
 use Rattle.touches.specs.declared.FaceNo.{FaceNo}
 use Rattle.touches.specs.declared.Point.{Point}
-use Rattle.touches.specs.declared.Refusal.{Refusal}
 use Rattle.touches.specs.declared.TouchList.{TouchList}
-use Rattle.touches.specs.declared.Checked.{Checked}
-use Rattle.touches.specs.declared.Checked.TheVariants.{Accepted, Refused as CheckedRefused}
+use Rattle.touches.specs.declared.Checked.TheVariants.{Accepted}
 use Rattle.touches.specs.Limits.{place_in_range}
 use Rattle.touches.specs.Touches.{touch, touch_count, face_no}
 use Rattle.touches.specs.Refusals.{no_such_face, place_out_of_range, because}
@@ -55,9 +53,6 @@ or_else (Some f) o = some f.0
 -- of the first i faces of the table t, first is the first that passes q
 pub record Looked (t : List ℕ) (q : Face → Bool) (i : ℕ) (first : Option FaceNo) : Type 0 where
   pub so_far : first_from q 0 (faces_in t) ≡ or_else first (first_from q i (drop i (faces_in t)))
-
-pub looked_none : (t : List ℕ) (q : Face → Bool) → Looked t q 0 None
-looked_none t q = record { so_far = refl }
 
 module _ {t : List ℕ} {q : Face → Bool} {i : ℕ} {first : Option FaceNo} (g : Looked t q i first) where
   abbrev later : Maybe ℕ
@@ -95,9 +90,6 @@ pub record NoneBelow (t : List ℕ) (g : Face → ℤ) (i : ℕ) : Type 0 where
 -- w is the worst of them by g, if any is below 0
 pub record Worsened (t : List ℕ) (g : Face → ℤ) (i : ℕ) (w : Option Worst) : Type 0 where
   pub so_far : MatchOption w (NoneBelow t g i) (λ u. WorstOf t g i u)
-
-pub worst_none : (t : List ℕ) (g : Face → ℤ) → Worsened t g 0 None
-worst_none t g = record { so_far = record { each = λ j l. absurd (omega arith) } }
 
 -- what is at most g of the faces before, and of this one, is at most g of all so far
 most_more : (t : List ℕ) (g : Face → ℤ) {i : ℕ} {x : ℤ} → x ≤ℤ g (face_at t i) → ((j : ℕ) → j < i → x ≤ℤ g (face_at t j)) → (j : ℕ) → j < i + 1 → x ≤ℤ g (face_at t j)
@@ -185,21 +177,8 @@ module _ (cs : List ℤ) (q : Point) where
           rest o e ∙ ap₂ (λ (x y : Maybe ℕ). placed_by (not_outside x y)) (sym (looked_all l h)) (sym (looked_all m h))
           ∙ sym (ap placed_by (lies_behind (touch cs) (faces_in t) q (behind h k)))
 
--- ---- the answer by what the three tests gave
-placed_is : (cs : List ℤ) (t : List ℕ) (q : Point) {k : Checked} {b d : Bool} → checked cs ≡ k → usable (touch_count cs) t ≡ b → place_in_range q ≡ d
-    → if_accepted k Refused (pick b (pick d (placed_by (lies (touch cs) (faces_in t) q)) (Refused (because place_out_of_range))) (Refused (because no_such_face))) ≡ placed cs t q
-placed_is cs t q e u r = sym (λ j. if_accepted (e j) Refused (pick (u j) (pick (r j) (placed_by (lies (touch cs) (faces_in t) q)) (Refused (because place_out_of_range))) (Refused (because no_such_face))))
-
-module _ (cs : List ℤ) (t : List ℕ) (q : Point) where
-  pub place_refused : {x : Refusal} → checked cs ≡ CheckedRefused x → Refused x ≡ placed cs t q
-  place_refused e = placed_is cs t q e refl refl
-
-  module _ {l : TouchList} (e : checked cs ≡ Accepted l) where
-    pub place_unusable : usable (touch_count cs) t ≡ false → {x : Refusal} → x ≡ because no_such_face → Refused x ≡ placed cs t q
-    place_unusable u x = ap Refused x ∙ placed_is cs t q e u refl
-
-    pub place_far : usable (touch_count cs) t ≡ true → place_in_range q ≡ false → {x : Refusal} → x ≡ because place_out_of_range → Refused x ≡ placed cs t q
-    place_far u r x = ap Refused x ∙ placed_is cs t q e u r
-
-    pub place_looked : usable (touch_count cs) t ≡ true → place_in_range q ≡ true → {x : Placed} → x ≡ placed_by (lies (touch cs) (faces_in t) q) → x ≡ placed cs t q
-    place_looked u r x = x ∙ placed_is cs t q e u r
+-- ---- the answer where the three tests are passed
+pub place_looked : (cs : List ℤ) (t : List ℕ) (q : Point) {l : TouchList} → checked cs ≡ Accepted l → usable (touch_count cs) t ≡ true → place_in_range q ≡ true
+    → {x : Placed} → x ≡ placed_by (lies (touch cs) (faces_in t) q) → x ≡ placed cs t q
+place_looked cs t q e u r x =
+    x ∙ sym (λ j. if_accepted (e j) Refused (pick (u j) (pick (r j) (placed_by (lies (touch cs) (faces_in t) q)) (Refused (because place_out_of_range))) (Refused (because no_such_face))))

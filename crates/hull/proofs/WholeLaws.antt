@@ -6,7 +6,7 @@ use mathlib.Core.List.{List, []}
 use Prim.Native.Nat.{ℕ, ◌+◌, ◌*◌, ◌<◌, ◌≤◌}
 use native.Mathlib.Omega.{arith}
 use lib.IntN.{ℤ, pos}
-use lib.ListN.{length, take, get_or, set}
+use lib.ListN.{length, take, get_or}
 use lib.Signed.{lt_z}
 use lib.Seq.{get_or-set_same, get_or-set_other, get_or-take, length-take-le}
 use Rattle.std.specs.Prelude.{Some, None, position}
@@ -49,13 +49,6 @@ module _ {cs : List ℤ} {faces : List Face} {planes : List (List ℤ)} {j : ℕ
 -- ---- a plane stored at place i
 pub planed_none : (cs : List ℤ) (faces : List Face) (planes : List (List ℤ)) → Planed cs 0 faces planes
 planed_none cs faces planes = record { each = λ j h. absurd (omega arith) }
-
-pub planed_more : {cs : List ℤ} {i : ℕ} {faces : List Face} {planes : List (List ℤ)} {w : List ℤ} → Planed cs i faces planes → i < length planes → w ≡ plane_on (touch cs) (get_or faces i []) → Planed cs (i + 1) faces (set planes i w)
-planed_more {cs} {i} {faces} {planes} {w} h l e = record { each = λ j b. go j b (same_or j i) }
-  where
-    go : (j : ℕ) → j < i + 1 → (j ≡ i) ⊎ (j ≢ i) → PlanedAt cs faces (set planes i w) j
-    go j b (inl s) = record { is = rw s (get_or-set_same planes i w [] l ∙ e) }
-    go j b (inr d) = record { is = get_or-set_other planes i j w [] d ∙ (h.each j (omega arith)).is }
 
 -- a face and its plane put at place m, where y holds
 module _ {cs : List ℤ} {faces : List Face} {planes : List (List ℤ)} {m : ℕ} (f : Face) (w : List ℤ) (a : m < length faces) (b : m < length planes) where
