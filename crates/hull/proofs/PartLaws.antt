@@ -1,16 +1,19 @@
 -- Parting a table of faces, with their planes, into those that q is in front of and the others, a face a turn.
-use mathlib.Core.Path.{◌≡◌, refl, sym, ap, ap₂, subst, ◌∙◌}
+use mathlib.Core.Path.{◌≡◌, refl, sym, ap, ap₂, ◌∙◌}
 use mathlib.Core.Bool.{Bool, true, false, not}
 use mathlib.Core.List.{List, [], ◌++◌}
 use Prim.Native.Nat.{ℕ, ◌+◌, ◌<◌, ◌≤◌}
 use native.Mathlib.Omega.{arith}
 use lib.IntN.{ℤ, pos}
-use lib.ListN.{length, take, get_or, length-append}
+use lib.ListN.{length, take, get_or, set, length-append}
 use lib.Signed.{lt_z}
 use lib.Seq.{get_or-take, length-take-le}
+use Rattle.std.proofs.Common.{length-set}
+use Rattle.std.specs.Prelude.{Some, None, position, All}
+use Rattle.std.proofs.lemmas.List.Elements.{All-from_get_or}
 use Rattle.laws.specs.Lists.{only_if, keep, lay, Laid}
 use Rattle.laws.proofs.Members.{get_or_in}
-use Rattle.laws.proofs.Tables.{lay_none, laid_none, laid_prefix, laid_past, laid_take, laid_keep, keep_more, keep_first, keep_no_first, length_only, length_keep_take}
+use Rattle.laws.proofs.Tables.{lay_none, lay_one, laid_none, laid_one, laid_prefix, laid_past, laid_take, laid_keep, keep_more, keep_first, keep_no_first, length_keep_take}
 use Rattle.touches.specs.declared.Point.{Point}
 use Rattle.touches.specs.Touches.{touch}
 use Rattle.rules.specs.Faces.{Face, visible}
@@ -18,8 +21,8 @@ use Rattle.rules.specs.Building.{seen, unseen}
 use Rattle.rules.specs.Demands.{FaceOf}
 use Rattle.points.specs.Whole.{PlaneNear}
 use Rattle.hull.specs.Inner.{in_front, Ready, PartOf}
-use Rattle.hull.specs.Whole.{read_at, FirstFront, PlanedAt, Planed}
-use Rattle.hull.proofs.WholeLaws.{read_is, planed_near, put_apart, put_planed}
+use Rattle.hull.specs.Whole.{read_at, PlanedAt, Planed}
+use Rattle.hull.proofs.WholeLaws.{read_is, planed_near, put_apart, put_planed, front_nowhere, front_at}
 
 abbrev behind : List ℤ → Point → Face → Bool
 behind cs q f = not (in_front cs q f)
@@ -32,8 +35,10 @@ module _ {cs : List ℤ} {faces : List Face} {planes : List (List ℤ)} {j : ℕ
 face_of : {cs : List ℤ} (faces : List Face) (n : ℕ) {k : ℕ} → Ready cs (take n faces) k → n ≤ length faces → (j : ℕ) → j < n → FaceOf cs (get_or faces j [])
 face_of faces n r l j h = rw (← get_or-take n faces j [] h) (r.faces (get_or (take n faces) j []) (get_or_in (take n faces) j [] (omega (arith, length-take-le n faces l))))
 
-pub planes_near : {cs : List ℤ} {faces : List Face} {planes : List (List ℤ)} {n k : ℕ} → Planed cs n faces planes → Ready cs (take n faces) k → n ≤ length faces → (j : ℕ) → j < n → PlaneNear (get_or planes j [])
-planes_near {faces = faces} {n = n} p r l j h = planed_near (p.each j h) r.sound (face_of faces n r l j h)
+pub planes_near : {cs : List ℤ} {faces : List Face} {planes : List (List ℤ)} {n k : ℕ} → Planed cs n faces planes → Ready cs (take n faces) k → n ≤ length faces → n ≤ length planes → All PlaneNear (take n planes)
+planes_near {faces = faces} {planes = planes} {n = n} p r l b =
+    let s : length (take n planes) ≡ n = length-take-le n planes b in
+    All-from_get_or PlaneNear (take n planes) [] (λ j c. let h : j < n = omega arith in rw (get_or-take n planes j [] h) (planed_near (p.each j h) r.sound (face_of faces n r l j h)))
 
 -- after the first i of the faces from: m of them are in the table kept, with their planes, and s in the table front
 pub record Parting (cs : List ℤ) (q : Point) (n : ℕ) (from kept front : List Face) (planes : List (List ℤ)) (m s i : ℕ) : Type 0 where
@@ -48,23 +53,23 @@ pub record Parting (cs : List ℤ) (q : Point) (n : ℕ) (from kept front : List
   pub rest : (j : ℕ) → i ≤ j → j < n → PlanedAt cs kept planes j
 
 -- the faces before the first that q is in front of are in their places
-module _ {cs : List ℤ} {q : Point} {n : ℕ} {from : List Face} {planes : List (List ℤ)} {i : ℕ} (a : n ≤ length from) (b : n ≤ length planes) (p : Planed cs n from planes) (h : FirstFront planes n q i)
-    (front : List Face) (l : n ≤ length front) where
+module _ {cs : List ℤ} {n : ℕ} {from : List Face} {planes : List (List ℤ)} {i : ℕ} (a : n ≤ length from) (b : n ≤ length planes) (p : Planed cs n from planes) (w : i ≤ n)
+    (q : Point) (h : (j : ℕ) → j < i → lt_z (read_at (get_or planes j []) q) (pos 0) ≡ false) (front : List Face) (l : n ≤ length front) where
   before : (j : ℕ) → j < i → in_front cs q (get_or from j []) ≡ false
-  before j c = sym (front_read (p.each j (omega (arith, h.within))) q) ∙ h.before j c
+  before j c = sym (front_read (p.each j (omega arith)) q) ∙ h j c
 
   pub parting_none : Parting cs q n from from front planes i 0 i
   parting_none =
-      let e : keep (in_front cs q) (take i from) ≡ [] = keep_no_first (in_front cs q) from [] i (omega (arith, h.within)) before in
+      let e : keep (in_front cs q) (take i from) ≡ [] = keep_no_first (in_front cs q) from [] i (omega arith) before in
       record {
-        within = h.within;
+        within = w;
         kept_long = refl;
         front_long = l;
         planes_long = b;
-        stay = rw (keep_first (behind cs q) from [] i (omega (arith, h.within)) (λ j c. ap not (before j c))) (laid_prefix i from (omega (arith, h.within)));
+        stay = rw (keep_first (behind cs q) from [] i (omega arith) (λ j c. ap not (before j c))) (laid_prefix i from (omega arith));
         gone = sym e;
         count = ap length (sym e);
-        planed = record { each = λ j c. p.each j (omega (arith, h.within)) };
+        planed = record { each = λ j c. p.each j (omega arith) };
         rest = λ j c d. p.each j d;
       }
 
@@ -80,22 +85,19 @@ module _ {cs : List ℤ} {q : Point} {n : ℕ} {from kept front : List Face} {pl
     pub parting_near : {k : ℕ} → Ready cs (take n from) k → PlaneNear (get_or planes i [])
     parting_near r = planed_near (g.rest i (omega arith) h) r.sound (rw next_face (face_of from n r e i h))
 
-    pub kept_place : m < length kept
+    kept_place : m < length kept
     kept_place = omega (arith, kept_few, g.kept_long)
 
-    pub planes_place : m < length planes
+    planes_place : m < length planes
     planes_place = omega (arith, kept_few, g.planes_long)
-
-    pub kept_room : (x : Bool) (f : Face) → m + length (only_if x f) ≤ length kept
-    kept_room x f = omega (arith, kept_place, length_only x f)
 
     front_few : s ≤ i
     front_few = omega (arith, g.count, length_keep_take (in_front cs q) from i)
 
-    pub front_room : (x : Bool) (f : Face) → s + length (only_if x f) ≤ length front
-    front_room x f = omega (arith, front_few, length_only x f, g.front_long)
+    front_place : s < length front
+    front_place = omega (arith, front_few, g.front_long)
 
-    pub parting_more : {kept' front' : List Face} {planes' : List (List ℤ)} {m' s' : ℕ} {x : Bool} → x ≡ lt_z (read_at (get_or planes i []) q) (pos 0)
+    parting_more : {kept' front' : List Face} {planes' : List (List ℤ)} {m' s' : ℕ} {x : Bool} → x ≡ lt_z (read_at (get_or planes i []) q) (pos 0)
         → planes' ≡ lay m (only_if (not x) (get_or planes i [])) planes → length planes' ≡ length planes
         → Laid m (only_if (not x) (get_or kept i [])) kept m' kept' → length kept' ≡ length kept
         → Laid s (only_if x (get_or kept i [])) front s' front' → length front' ≡ length front → Parting cs q n from kept' front' planes' m' s' (i + 1)
@@ -117,16 +119,27 @@ module _ {cs : List ℤ} {q : Point} {n : ℕ} {from kept front : List Face} {pl
           rest = λ j f y. rw (w, a.table) (put_apart (get_or kept i []) (get_or planes i []) kept_place planes_place (not x) (λ r. absurd (omega (arith, r, kept_few))) (g.rest j (omega arith) y));
         }
 
+    -- it goes to the faces seen
+    pub parting_seen : lt_z (read_at (get_or planes i []) q) (pos 0) ≡ true → Parting cs q n from kept (set front s (get_or kept i [])) planes m (s + 1) (i + 1)
+    parting_seen t = parting_more (sym t) (sym (lay_none m planes)) refl (laid_none m kept) refl (laid_one s (get_or kept i []) front front_place) (length-set front s (get_or kept i []))
+
+    -- or stays, with its plane
+    pub parting_kept : lt_z (read_at (get_or planes i []) q) (pos 0) ≡ false → Parting cs q n from (set kept m (get_or kept i [])) front (set planes m (get_or planes i [])) (m + 1) s (i + 1)
+    parting_kept t =
+        parting_more (sym t) (sym (lay_one m (get_or planes i []) planes planes_place)) (length-set planes m (get_or planes i [])) (laid_one m (get_or kept i []) kept kept_place) (length-set kept m (get_or kept i [])) (laid_none s front) refl
+
   pub parting_all : {k : ℕ} → q ≡ touch cs k → n ≤ i → PartOf cs (take n from) k from m kept s front
   unfolding seen unseen visible
   parting_all {k} e h =
       let l : n ≡ i = omega (arith, g.within) in
       rw l (record { stay = rw e at g.stay; gone = rw e at g.gone; count = rw e at g.count })
 
--- the first of them goes to the front
-module _ {cs : List ℤ} {q : Point} {n : ℕ} {from : List Face} {planes : List (List ℤ)} {i : ℕ} (a : n ≤ length from) (b : n ≤ length planes) (p : Planed cs n from planes) (h : FirstFront planes n q i) where
-  pub parting_first : i < n → {front front' : List Face} {s : ℕ} → n ≤ length front → Laid 0 (only_if true (get_or from i [])) front s front' → length front' ≡ length front → Parting cs q n from from front' planes i s (i + 1)
-  parting_first l {front} c g z = parting_more (parting_none a b p h front c) l a (sym (h.here l)) (sym (lay_none i planes)) refl (laid_none i from) refl g z
+-- the first of them goes to the front, if there is one
+module _ {cs : List ℤ} (q : Point) {n : ℕ} {from : List Face} {planes : List (List ℤ)} (a : n ≤ length from) (b : n ≤ length planes) (p : Planed cs n from planes) (front : List Face) (l : n ≤ length front) where
+  pub parting_first : {i : ℕ} → Some i ≡ position (λ w. lt_z (read_at w q) (pos 0)) (take n planes) → Parting cs q n from from (set front 0 (get_or from i [])) planes i 1 (i + 1)
+  parting_first {i} e =
+      let f = front_at planes q b e in
+      parting_seen (parting_none a b p (omega (arith, f.0)) q f.2 front l) f.0 a f.1
 
-  pub parting_nothing : i ≡ n → {k : ℕ} → q ≡ touch cs k → (front : List Face) → n ≤ length front → PartOf cs (take n from) k from n from 0 front
-  parting_nothing e {k} t front c = subst (λ (j : ℕ). PartOf cs (take n from) k from j from 0 front) e (parting_all (parting_none a b p h front c) t (omega arith))
+  pub parting_nothing : None ≡ position (λ w. lt_z (read_at w q) (pos 0)) (take n planes) → {k : ℕ} → q ≡ touch cs k → PartOf cs (take n from) k from n from 0 front
+  parting_nothing e t = parting_all (parting_none a b p (omega arith) q (front_nowhere planes q b e) front l) t (omega arith)

@@ -1,5 +1,5 @@
 -- The volume, a face a turn: the machine's sum so far and how large it can be.
-use mathlib.Core.Path.{◌≡◌, refl, sym, ap, subst, ◌∙◌}
+use mathlib.Core.Path.{◌≡◌, sym, ap, subst, ◌∙◌}
 use mathlib.Core.List.{List, [], ◌∷◌}
 use Prim.Native.Nat.{ℕ, ◌+◌, ◌*◌, ◌<◌, ◌≤◌}
 use native.Mathlib.Numerals.{add-one}
@@ -9,12 +9,12 @@ use lib.IntN.{ℤ, ◌+ℤ◌, +ℤ_idr}
 use lib.ListN.{length, take, get_or}
 use lib.Seq.{take-suc, take_all}
 use mir.Syntax.{w64}
-use mir.Val.{SFits, to_z, of_z}
+use mir.Val.{to_z, of_z}
 use Rattle.laws.specs.Numbers.{Within}
 use Rattle.laws.specs.Lists.{sum_z}
 use Rattle.laws.proofs.Sums.{sum_append}
 use Rattle.laws.proofs.WithinLaws.{within_more}
-use Rattle.laws.proofs.Words.{Reads, r_add, fits, stored}
+use Rattle.laws.proofs.Words.{Reads, r_add, stored}
 use Rattle.touches.specs.declared.Point.{Point}
 use Rattle.touches.specs.Limits.{most_faces}
 use Rattle.volume.specs.Volume.{most_volume}
@@ -29,9 +29,6 @@ so_far p q l i = sum_z (λ f. face_vol p f q) (take i l)
 -- n is the bits of the sum over the first i faces
 pub record Summed (p : Places) (q : Point) (l : List Face) (i n : ℕ) : Type 0 where
   pub reads : Reads (i * most_volume) (to_z w64 n) (so_far p q l i)
-
-pub summed_none : (p : Places) (q : Point) (l : List Face) → Summed p q l 0 0
-summed_none p q l = record { reads = record { is = refl; bound = record { within = omega arith } } }
 
 module _ {p : Places} {q : Point} {l : List Face} {i n : ℕ} (g : Summed p q l i n) where
   module _ {v : ℤ} (e : Number most_volume (face_vol p (get_or l i []) q) v) (h : i < length l) (b : length l ≤ most_faces) where
@@ -49,9 +46,6 @@ module _ {p : Places} {q : Point} {l : List Face} {i n : ℕ} (g : Summed p q l 
 
     whole : Reads (most_faces * most_volume) (to_z w64 n +ℤ to_z w64 (of_z w64 v)) (so_far p q l (i + 1))
     whole = record { is = next.is; bound = within_more (mul-le-mul_right {n = most_faces} most_volume (omega arith)) next.bound }
-
-    pub sum_fits : SFits w64 (to_z w64 n +ℤ to_z w64 (of_z w64 v))
-    sum_fits = fits w64 whole tt
 
     pub summed_more : Summed p q l (i + 1) (of_z w64 (to_z w64 n +ℤ to_z w64 (of_z w64 v)))
     summed_more = record { reads = record { is = (stored w64 whole tt).is; bound = next.bound } }

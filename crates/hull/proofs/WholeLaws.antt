@@ -3,12 +3,16 @@ use mathlib.Core.Path.{◌≡◌, sym, ap, subst, ◌∙◌}
 use mathlib.Core.Logic.{◌⊎◌, inl, inr, ◌≢◌}
 use mathlib.Core.Bool.{Bool, true, false}
 use mathlib.Core.List.{List, []}
-use Prim.Native.Nat.{ℕ, ◌+◌, ◌*◌, ◌<◌}
+use Prim.Native.Nat.{ℕ, ◌+◌, ◌*◌, ◌<◌, ◌≤◌}
 use native.Mathlib.Omega.{arith}
 use lib.IntN.{ℤ, pos}
-use lib.ListN.{length, get_or, set}
+use lib.ListN.{length, take, get_or}
 use lib.Signed.{lt_z}
-use lib.Seq.{get_or-set_same, get_or-set_other}
+use lib.Seq.{get_or-set_same, get_or-set_other, get_or-take, length-take-le}
+use Rattle.std.specs.Prelude.{Some, None, position}
+use Rattle.std.proofs.lemmas.List.Sums.{fails_before_first}
+use Rattle.std.proofs.lemmas.List.Quantifiers.{position-Some}
+use Rattle.std.proofs.lemmas.Grind.{common_steps}
 use Rattle.laws.specs.Numbers.{Within}
 use Rattle.laws.specs.Lists.{only_if, lay}
 use Rattle.laws.proofs.Tests.{same_or}
@@ -24,7 +28,7 @@ use Rattle.rules.specs.Demands.{FaceOf}
 use Rattle.points.specs.Sizes.{Number}
 use Rattle.points.specs.Whole.{plane_on, PlaneNear}
 use Rattle.points.proofs.PlaneLaws.{plane_near}
-use Rattle.hull.specs.Whole.{read_at, FirstFront, PlanedAt, Planed}
+use Rattle.hull.specs.Whole.{read_at, PlanedAt, Planed}
 
 pub read_is : (p : Places) (f : Face) (q : Point) → read_at (plane_on p f) q ≡ face_vol p f q
 unfolding face_vol
@@ -46,13 +50,6 @@ module _ {cs : List ℤ} {faces : List Face} {planes : List (List ℤ)} {j : ℕ
 pub planed_none : (cs : List ℤ) (faces : List Face) (planes : List (List ℤ)) → Planed cs 0 faces planes
 planed_none cs faces planes = record { each = λ j h. absurd (omega arith) }
 
-pub planed_more : {cs : List ℤ} {i : ℕ} {faces : List Face} {planes : List (List ℤ)} {w : List ℤ} → Planed cs i faces planes → i < length planes → w ≡ plane_on (touch cs) (get_or faces i []) → Planed cs (i + 1) faces (set planes i w)
-planed_more {cs} {i} {faces} {planes} {w} h l e = record { each = λ j b. go j b (same_or j i) }
-  where
-    go : (j : ℕ) → j < i + 1 → (j ≡ i) ⊎ (j ≢ i) → PlanedAt cs faces (set planes i w) j
-    go j b (inl s) = record { is = rw s (get_or-set_same planes i w [] l ∙ e) }
-    go j b (inr d) = record { is = get_or-set_other planes i j w [] d ∙ (h.each j (omega arith)).is }
-
 -- a face and its plane put at place m, where y holds
 module _ {cs : List ℤ} {faces : List Face} {planes : List (List ℤ)} {m : ℕ} (f : Face) (w : List ℤ) (a : m < length faces) (b : m < length planes) where
   pub put_apart : (y : Bool) {j : ℕ} → j ≢ m → PlanedAt cs faces planes j → PlanedAt cs (lay m (only_if y f) faces) (lay m (only_if y w) planes) j
@@ -68,24 +65,22 @@ module _ {cs : List ℤ} {faces : List Face} {planes : List (List ℤ)} {m : ℕ
         go false j l (inl s) = absurd (omega arith)
         go y j l (inr d) = put_apart y d (h.each j (omega (arith, length_only y f)))
 
--- ---- the search for the first face that q is in front of
--- q is in front of none of the first i
-pub record Behind (planes : List (List ℤ)) (q : Point) (i : ℕ) : Type 0 where
-  pub each : (j : ℕ) → j < i → lt_z (read_at (get_or planes j []) q) (pos 0) ≡ false
+-- ---- the search for the first face that q is in front of, among n
+abbrev fronts : Point → List ℤ → Bool
+fronts q w = lt_z (read_at w q) (pos 0)
 
-pub behind_none : (planes : List (List ℤ)) (q : Point) → Behind planes q 0
-behind_none planes q = record { each = λ j h. absurd (omega arith) }
+module _ (planes : List (List ℤ)) (q : Point) {n : ℕ} (l : n ≤ length planes) where
+  back : (b : Bool) (j : ℕ) → j < n → fronts q (get_or (take n planes) j []) ≡ b → fronts q (get_or planes j []) ≡ b
+  back b j h e = rw (get_or-take n planes j [] h) at e
 
-module _ {planes : List (List ℤ)} {q : Point} {i : ℕ} (b : Behind planes q i) where
-  pub behind_more : lt_z (read_at (get_or planes i []) q) (pos 0) ≡ false → Behind planes q (i + 1)
-  behind_more e = record { each = λ j h. go j h (same_or j i) }
-    where
-      go : (j : ℕ) → j < i + 1 → (j ≡ i) ⊎ (j ≢ i) → lt_z (read_at (get_or planes j []) q) (pos 0) ≡ false
-      go j h (inl s) = rw s e
-      go j h (inr d) = b.each j (omega arith)
+  pub front_nowhere : None ≡ position (fronts q) (take n planes) → (j : ℕ) → j < n → fronts q (get_or planes j []) ≡ false
+  front_nowhere e j h =
+      let s : length (take n planes) ≡ n = length-take-le n planes l in
+      back false j h (fails_before_first (fronts q) (take n planes) j [] (grind (arith, common_steps)))
 
-  pub front_here : {n : ℕ} → i < n → lt_z (read_at (get_or planes i []) q) (pos 0) ≡ true → FirstFront planes n q i
-  front_here h e = record { within = omega arith; before = b.each; here = λ _. e }
-
-  pub front_nowhere : {n : ℕ} → i ≡ n → FirstFront planes n q n
-  front_nowhere e = record { within = omega arith; before = λ j h. b.each j (omega arith); here = λ h. absurd (omega arith) }
+  pub front_at : {i : ℕ} → Some i ≡ position (fronts q) (take n planes) → (i < n) × (fronts q (get_or planes i []) ≡ true) × ((j : ℕ) → j < i → fronts q (get_or planes j []) ≡ false)
+  front_at {i} e =
+      let s : length (take n planes) ≡ n = length-take-le n planes l in
+      let f = position-Some (fronts q) (take n planes) i [] (sym e) in
+      let h : i < n = omega (arith, f.0) in
+      (h, back true i h f.1, λ j b. back false j (omega arith) (f.2 j b))

@@ -1,6 +1,7 @@
 -- What the inner steps of building and placing take for granted, and what they leave.
 use Rattle.std.specs.Prelude.{◌≡◌, Bool, List, ℕ, ◌<◌, ◌≤◌, ℤ, pos, neg_ℤ, length, take}
-use Rattle.std.proofs.Math.Option.{Option, some}
+use Rattle.std.specs.Prelude.{Option, Some, None}
+use Rattle.std.proofs.Math.Option.{Option as Maybe, some}
 use Rattle.std.specs.Int.Signed.{lt_z}
 use Rattle.laws.specs.Lists.{In, Laid}
 use Rattle.touches.specs.declared.Point.{Point}
@@ -19,8 +20,6 @@ use Rattle.hull.specs.Whole.{Planed}
 use Rattle.hull.specs.Build.{built_from, table_after}
 use Rattle.hull.specs.declared.build.Built.{Built}
 use Rattle.hull.specs.declared.place.Worst.{Worst}
-use Rattle.hull.specs.declared.place.First.{First}
-use Rattle.hull.specs.declared.place.First.TheVariants.{Nowhere, At}
 use Rattle.hull.specs.declared.place.Placed.{Placed}
 use Rattle.hull.specs.declared.place.Placed.TheVariants.{Outside, On, Inside, Refused}
 
@@ -59,24 +58,22 @@ pub record Tables (cs : List ℤ) (table : List Face) (planes : List (List ℤ))
   pub mark_width : marks.width ≡ touch_count cs
 
 -- what building gives and leaves in the lent table: one contract, whatever tables it works in; h is the face list
-pub record Builds (cs : List ℤ) (h : Option (List Face)) (old : List ℕ) (r : Built) (after : List ℕ) : Type 0 where
+pub record Builds (cs : List ℤ) (h : Maybe (List Face)) (old : List ℕ) (r : Built) (after : List ℕ) : Type 0 where
   pub answer : r ≡ built_from (touch cs) (room old) h
   pub table : after ≡ table_after r h old
 
--- the worst face once f is looked at, with its V
-abbrev pub worse : Worst → FaceNo → ℤ → Worst
-worse w f v = pick (lt_z v w.v) (record { face = f; v = v }) w
+-- is V, at v, less than that of the worst face so far, and than 0
+abbrev pub is_worse : Option Worst → ℤ → Bool
+is_worse None v = lt_z v (pos 0)
+is_worse (Some w) v = lt_z v w.v
 
--- the first face of a kind once f is looked at, b saying whether it is one
-abbrev pub earlier : First → FaceNo → Bool → First
-earlier Nowhere f b = pick b (At f) Nowhere
-earlier (At g) f b = At g
+-- the worst face once f is looked at, with its V
+abbrev pub worse : Option Worst → FaceNo → ℤ → Option Worst
+worse w f v = pick (is_worse w v) (Some (record { face = f; v = v })) w
 
 -- a face in front comes before one that holds the place, and that before one whose plane does
-abbrev pub settled_behind : First → First → Placed
-settled_behind (At g) e = On g
-settled_behind Nowhere (At g) = Refused (because place_in_no_triangle)
-settled_behind Nowhere Nowhere = Inside
-
-abbrev pub settled : Worst → First → First → Placed
-settled w o e = pick (lt_z w.v (pos 0)) (Outside w.face (neg_ℤ w.v)) (settled_behind o e)
+abbrev pub settled : Option Worst → Option FaceNo → Option FaceNo → Placed
+settled (Some w) o e = Outside w.face (neg_ℤ w.v)
+settled None (Some f) e = On f
+settled None None (Some f) = Refused (because place_in_no_triangle)
+settled None None None = Inside

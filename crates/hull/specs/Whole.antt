@@ -1,6 +1,5 @@
 -- Planes as building keeps them beside its faces, from touch to touch.
-use Rattle.std.specs.Prelude.{◌≡◌, true, false, List, [], ℕ, ◌<◌, ◌≤◌, ℤ, pos, ◌-ℤ◌, get_or}
-use Rattle.std.specs.Int.Signed.{lt_z}
+use Rattle.std.specs.Prelude.{◌≡◌, List, [], ℕ, ◌<◌, ℤ, pos, ◌-ℤ◌, get_or}
 use Rattle.touches.specs.declared.Point.{Point}
 use Rattle.touches.specs.Touches.{touch}
 use Rattle.volume.specs.Volume.{dot}
@@ -10,12 +9,6 @@ use Rattle.points.specs.Whole.{plane_on, slope}
 -- what V is, read from the plane
 abbrev pub read_at : List ℤ → Point → ℤ
 read_at w q = get_or w 3 (pos 0) -ℤ dot (slope w) q
-
--- r is the number of the first of n planes whose face q is in front of, n where there is none
-pub record FirstFront (planes : List (List ℤ)) (n : ℕ) (q : Point) (r : ℕ) : Type 0 where
-  pub within : r ≤ n
-  pub before : (j : ℕ) → j < r → lt_z (read_at (get_or planes j []) q) (pos 0) ≡ false
-  pub here : r < n → lt_z (read_at (get_or planes r []) q) (pos 0) ≡ true
 
 -- plane number j of a table is that of face number j
 pub record PlanedAt (cs : List ℤ) (faces : List Face) (planes : List (List ℤ)) (j : ℕ) : Type 0 where

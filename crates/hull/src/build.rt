@@ -28,10 +28,8 @@ fn six_volume(coords: &[i32], hull: &[[u16; 3]], planes: &[[i64; 4]]) -> i64
 {
     let q = touch(coords, TouchNo(0));
     let mut sum: i64 = 0;
-    let mut i: usize = 0;
-    while i < hull.len() {
-        sum += read(planes[i], q);
-        i += 1;
+    for &p in &planes[..hull.len()] {
+        sum += read(p, q);
     }
     sum
 }

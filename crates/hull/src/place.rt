@@ -1,11 +1,11 @@
 // Where a place lies against a face table, hull or not.
-ghost use Rattle.std.specs.Prelude.{◌≡◌, true};
+ghost use Rattle.std.specs.Prelude.{◌≡◌, true, IfSome};
 ghost use Rattle.laws.specs.Numbers.{Within};
 ghost use Rattle.touches.specs.Touches.{touch, touch_count, Near, Sound};
 ghost use Rattle.volume.specs.Volume.{most_volume};
 ghost use Rattle.rules.specs.Placing.{lies};
 ghost use Rattle.table.specs.Table.{faces_in, usable};
-ghost use Rattle.hull.specs.Inner.{worse, earlier, settled};
+ghost use Rattle.hull.specs.Inner.{worse, settled};
 ghost use Rattle.hull.specs.Place.{placed_by, placed};
 
 use crate::face::{face_holds, face_volume};
@@ -20,61 +20,34 @@ pub enum Placed {
     Refused(Refusal),
 }
 
-// The worst face so far and its V: 0 while the place is in front of none.
+// The worst face so far and its V, below 0.
 #[derive(Clone, Copy)]
 struct Worst {
     face: FaceNo,
     v: i64,
 }
 
-// The first face of a kind.
-#[derive(Clone, Copy)]
-enum First {
-    Nowhere,
-    At(FaceNo),
-}
-
-// Face f is the worst if its V is less than any before it.
-fn worse(w: Worst, f: FaceNo, v: i64) -> Worst
-    requires { Within most_volume w.v × Within most_volume v }
-    ensures { result ≡ worse w f v }
+// Face f is the worst if the place is in front of it, and its V is less than any before it.
+fn worse(worst: Option<Worst>, f: FaceNo, v: i64) -> Option<Worst>
+    requires { IfSome worst (λ w. Within most_volume w.v) × Within most_volume v }
+    ensures { result ≡ worse worst f v }
 {
-    if v < w.v {
-        return Worst { face: f, v };
+    if worst.map_or(v < 0, |w| v < w.v) {
+        return Some(Worst { face: f, v });
     }
-    w
-}
-
-// Face f is the first, if it is of the kind and none was before it.
-fn earlier(first: First, f: FaceNo, here: bool) -> First
-    ensures { result ≡ earlier first f here }
-{
-    match first {
-        First::At(g) => First::At(g),
-        First::Nowhere => {
-            if here {
-                return First::At(f);
-            }
-            First::Nowhere
-        }
-    }
+    worst
 }
 
 // A face that the place is in front of comes before one that holds it, and that before one whose plane does.
-fn settle(w: Worst, on: First, plane: First) -> Placed
-    requires { Within most_volume w.v }
-    ensures { result ≡ settled w on plane }
+fn settle(worst: Option<Worst>, on: Option<FaceNo>, plane: Option<FaceNo>) -> Placed
+    requires { IfSome worst (λ w. Within most_volume w.v) }
+    ensures { result ≡ settled worst on plane }
 {
-    let f = w.face;
-    if w.v < 0 {
-        return Placed::Outside(f, -w.v);
-    }
-    match on {
-        First::At(g) => Placed::On(g),
-        First::Nowhere => match plane {
-            First::At(_) => Placed::Refused(Refusal::because(Refusal::PLACE_IN_NO_TRIANGLE)),
-            First::Nowhere => Placed::Inside,
-        },
+    match (worst, on, plane) {
+        (Some(w), _, _) => Placed::Outside(w.face, -w.v),
+        (None, Some(f), _) => Placed::On(f),
+        (None, None, Some(_)) => Placed::Refused(Refusal::because(Refusal::PLACE_IN_NO_TRIANGLE)),
+        (None, None, None) => Placed::Inside,
     }
 }
 
@@ -82,24 +55,18 @@ fn look(coords: &[i32], faces: &[u16], q: Point) -> Placed
     requires { Sound coords.now × (usable (touch_count coords.now) faces.now ≡ true) × Near q }
     ensures { result ≡ placed_by (lies (touch coords.now) (faces_in faces.now) q) }
 {
-    let n = table::room(faces);
-    let mut w = Worst {
-        face: FaceNo(0),
-        v: 0,
-    };
-    let mut on = First::Nowhere;
-    let mut plane = First::Nowhere;
-    let mut i: usize = 0;
-    while i < n {
+    let mut worst = None;
+    let mut on = None;
+    let mut plane = None;
+    for i in 0..table::room(faces) {
         let f = FaceNo(i as u16);
         let c = table::face(faces, f);
         let v = face_volume(coords, c, q);
-        w = worse(w, f, v);
-        on = earlier(on, f, face_holds(coords, c, q, v));
-        plane = earlier(plane, f, v == 0);
-        i += 1;
+        worst = worse(worst, f, v);
+        on = on.or(face_holds(coords, c, q, v).then_some(f));
+        plane = plane.or((v == 0).then_some(f));
     }
-    settle(w, on, plane)
+    settle(worst, on, plane)
 }
 
 // Refusals 1, 2, 3, 6, 7, 17.

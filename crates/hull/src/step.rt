@@ -1,6 +1,6 @@
 // One building step, on a table of faces.
-ghost use Rattle.std.specs.Prelude.{◌≡◌, ◌+◌, ◌<◌, ◌≤◌, length, take};
-ghost use Rattle.laws.specs.Lists.{only_if, lay, Laid};
+ghost use Rattle.std.specs.Prelude.{◌≡◌, ◌+◌, ◌≤◌, length, take};
+ghost use Rattle.laws.specs.Lists.{Laid};
 ghost use Rattle.touches.specs.Touches.{touch};
 ghost use Rattle.rules.specs.Building.{step};
 ghost use Rattle.border.specs.Marks.{Fresh};
@@ -8,7 +8,7 @@ ghost use Rattle.hull.specs.Whole.{Planed};
 ghost use Rattle.hull.specs.Inner.{Ready, PartOf, Tables};
 
 use crate::whole::{first_in_front, in_front, put_planes};
-use border::{Marks, add_cone, put};
+use border::{Marks, add_cone};
 use points::touch::touch;
 use touches::TouchNo;
 
@@ -17,16 +17,6 @@ use touches::TouchNo;
 struct Parted {
     kept: usize,
     seen: usize,
-}
-
-// Plane p at place at, if it is wanted.
-fn put_plane(planes: &mut [[i64; 4]], at: usize, p: [i64; 4], wanted: bool)
-    requires { at < length planes.old }
-    ensures { planes.new ≡ lay at (only_if wanted p) planes.old }
-{
-    if wanted {
-        planes[at] = p;
-    }
 }
 
 // The faces that are not visible from k go to the front of the table, with their planes, the visible ones to seen, each in their order.
@@ -46,21 +36,21 @@ fn part(
     ensures planes { Planed coords.now result.kept table.new planes.new }
 {
     let q = touch(coords, k);
-    let first = first_in_front(planes, n, q);
-    if first == n {
+    let Some(first) = first_in_front(&planes[..n], q) else {
         return Parted { kept: n, seen: 0 };
-    }
+    };
+    seen[0] = table[first];
     let mut m = first;
-    let mut s = put(seen, 0, table[first], true);
-    let mut i = first + 1;
-    while i < n {
-        let f = table[i];
-        let p = planes[i];
-        let v = in_front(p, q);
-        put_plane(planes, m, p, !v);
-        m = put(table, m, f, !v);
-        s = put(seen, s, f, v);
-        i += 1;
+    let mut s = 1;
+    for i in first + 1..n {
+        if in_front(planes[i], q) {
+            seen[s] = table[i];
+            s += 1;
+        } else {
+            table[m] = table[i];
+            planes[m] = planes[i];
+            m += 1;
+        }
     }
     Parted { kept: m, seen: s }
 }
@@ -85,8 +75,7 @@ pub(crate) fn step(
     ensures width { marks.new.width ≡ marks.old.width }
 {
     let p = part(table, planes, seen, coords, n, k);
-    let m = p.seen;
-    let r = add_cone(table, p.kept, &seen[..m], marks, k);
+    let r = add_cone(table, p.kept, &seen[..p.seen], marks, k);
     put_planes(planes, table, coords, p.kept, r);
     r
 }

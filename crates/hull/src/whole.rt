@@ -1,12 +1,12 @@
 // The planes that building keeps beside its faces: once a plane is known, V takes three products.
-ghost use Rattle.std.specs.Prelude.{◌≡◌, [], ℕ, ◌*◌, ◌<◌, ◌≤◌, pos, length, get_or};
+ghost use Rattle.std.specs.Prelude.{◌≡◌, [], ℕ, ◌*◌, ◌<◌, ◌≤◌, pos, length, get_or, position, All};
 ghost use Rattle.std.specs.Int.Signed.{lt_z};
 ghost use Rattle.touches.specs.Touches.{Near, Sound};
 ghost use Rattle.volume.specs.Volume.{most_volume};
 ghost use Rattle.rules.specs.Demands.{FaceOf};
 ghost use Rattle.points.specs.Sizes.{Number};
 ghost use Rattle.points.specs.Whole.{PlaneNear};
-ghost use Rattle.hull.specs.Whole.{read_at, FirstFront, Planed};
+ghost use Rattle.hull.specs.Whole.{read_at, Planed};
 
 use points::vectors::dot;
 use points::whole::plane_on;
@@ -33,19 +33,12 @@ pub(crate) fn in_front(p: [i64; 4], q: Point) -> bool
     read(p, q) < 0
 }
 
-// The first of n planes whose face q is in front of, n where there is none.
-pub(crate) fn first_in_front(planes: &[[i64; 4]], n: usize, q: Point) -> usize
-    requires { (n ≤ length planes.now) × ((j : ℕ) → j < n → PlaneNear (get_or planes.now j [])) × Near q }
-    ensures { FirstFront planes.now n q result }
+// The first of the planes whose face q is in front of.
+pub(crate) fn first_in_front(planes: &[[i64; 4]], q: Point) -> Option<usize>
+    requires { All PlaneNear planes.now × Near q }
+    ensures { result ≡ position (λ p. lt_z (read_at p q) (pos 0)) planes.now }
 {
-    let mut i: usize = 0;
-    while i < n {
-        if in_front(planes[i], q) {
-            return i;
-        }
-        i += 1;
-    }
-    n
+    planes.iter().position(|&p| in_front(p, q))
 }
 
 // The planes of the faces from number start up to n, beside those before them.
@@ -60,9 +53,7 @@ pub(crate) fn put_planes(
         × ((j : ℕ) → start ≤ j → j < n → FaceOf coords.now (get_or faces.now j [])) }
     ensures { Planed coords.now n faces.now planes.new }
 {
-    let mut i = start;
-    while i < n {
+    for i in start..n {
         planes[i] = plane_on(coords, touches::corners(faces[i]));
-        i += 1;
     }
 }

@@ -35,9 +35,9 @@ loop-i-preserved c =
     let v = c.face_volume-v.ensures in
     let h : l.i < room t = omega arith in
     record {
-      worst = rw c.worse-w.ensures (worst_more l.invariant.worst h (back tt v ∙ ap (against cs q) c.face-c.ensures) (back_small tt v));
-      on = rw c.earlier-on.ensures (looked_more l.invariant.on h (c.face_holds.ensures ∙ ap (holding cs q) c.face-c.ensures));
-      plane = rw c.earlier-plane.ensures (looked_more l.invariant.plane h (zero_test tt v.small ∙ ap is_zero v.is ∙ ap (flat cs q) c.face-c.ensures));
+      worst = rw c.worse-worst.ensures (worst_more h (back tt v ∙ ap (against cs q) c.face-c.ensures) (back_small tt v) l.invariant.worst);
+      on = rw (c.or-on.ensures, c.then_some.ensures) (looked_more l.invariant.on h (c.face_holds.ensures ∙ ap (holding cs q) c.face-c.ensures));
+      plane = rw (c.or-plane.ensures, c.then_some-in-loop-i.ensures) (looked_more l.invariant.plane h (zero_test tt v.small ∙ ap is_zero v.is ∙ ap (flat cs q) c.face-c.ensures));
     }
 
 pub returns : goal.returns

@@ -1,42 +1,28 @@
-use Rattle.std.proofs.Common.{[], refl, ◌∙◌, get_or, arith, rules}
-use mathlib.Core.Bool.{not}
-use Rattle.hull.proofs.PartLaws.{planes_near, parting_near, planes_place, kept_room, front_room, parting_more, parting_all, parting_first, parting_nothing}
+use Rattle.std.proofs.Common.{sym, ◌∙◌, ◌<◌, arith, rules}
+use Rattle.hull.proofs.PartLaws.{planes_near, parting_near, parting_seen, parting_kept, parting_all, parting_first, parting_nothing}
+use Rattle.hull.proofs.step.part.Goals.{then-in_front, else-in_front}
 use Rattle.hull.proofs.step.part.Goals as goal
 
-pub first_in_front-first-requires : goal.first_in_front-first-requires
-first_in_front-first-requires c = let h = c.requires in (h.3, planes_near h.1 h.0 h.2, c.touch-q.ensures.small)
+pub first_in_front-requires : goal.first_in_front-requires
+first_in_front-requires c = let h = c.requires in (planes_near h.1 h.0 h.2 h.3, c.touch-q.ensures.small)
 
-pub returns-then-first-n-clause-faces : goal.returns-then-first-n-clause-faces
-returns-then-first-n-clause-faces c = let h = c.requires in parting_nothing h.2 h.3 h.1 c.first_in_front-first.ensures c.if-first-n.true c.touch-q.ensures.is c.args.seen.now h.4
+pub returns-in_default-clause-faces : goal.returns-in_default-clause-faces
+returns-in_default-clause-faces c = let h = c.requires in parting_nothing c.touch-q.result h.2 h.3 h.1 c.args.seen.now h.4 c.in_default.ensures c.touch-q.ensures.is
 
 pub loop-i-init : goal.loop-i-init
-loop-i-init c =
-    let h = c.requires in
-    let f = c.first_in_front-first in
-    (refl, refl, parting_first h.2 h.3 h.1 f.ensures (omega (arith, c.if-first-n.false, f.ensures.within)) h.4 c.put-s.ensures c.put-s.auto.table)
+loop-i-init c = let h = c.requires in (omega arith, omega arith, parting_first c.touch-q.result h.2 h.3 h.1 c.args.seen.now h.4 c.in-Some.ensures)
 
-pub in_front-v-requires : goal.in_front-v-requires
-in_front-v-requires c = (parting_near c.loop-i.invariant.2 (search rules) c.requires.2 c.requires.0, c.touch-q.ensures.small)
-
-pub put_plane-requires : goal.put_plane-requires
-put_plane-requires c = planes_place c.loop-i.invariant.2 (search rules) c.requires.2
-
-pub put-m-requires : goal.put-m-requires
-put-m-requires c = kept_room c.loop-i.invariant.2 (search rules) c.requires.2 (not c.in_front-v.result) (get_or c.loop-i.table c.loop-i.i [])
-
-pub put-s-requires-in-loop-i : goal.put-s-requires-in-loop-i
-put-s-requires-in-loop-i c = front_room c.loop-i.invariant.2 (search rules) c.requires.2 c.in_front-v.result (get_or c.loop-i.table c.loop-i.i [])
+pub in_front-requires : goal.in_front-requires
+in_front-requires c = (parting_near c.loop-i.invariant.2 (search rules) c.requires.2 c.requires.0, c.touch-q.ensures.small)
 
 pub loop-i-preserved : goal.loop-i-preserved
 loop-i-preserved c =
     let l = c.loop-i in
-    let w = c.put_plane in
-    let one = c.put-m in
-    let two = c.put-s-in-loop-i in (
-      w.auto.planes ∙ l.invariant.0,
-      two.auto.table ∙ l.invariant.1,
-      parting_more l.invariant.2 (omega (arith, c.loop-i-test.true)) c.requires.2 c.in_front-v.ensures w.ensures w.auto.planes one.ensures one.auto.table two.ensures two.auto.table,
-    )
+    let h : l.i < c.args.n = omega (arith, c.loop-i-test.true) in
+    elim c.if-in_front.branch [
+      | then-in_front w ↦ rw (w.table-is, w.planes-is, w.seen-is, w.m-is, w.s-is) (omega arith, omega arith, parting_seen l.invariant.2 h c.requires.2 (sym c.in_front.ensures ∙ w.if-in_front.true))
+      | else-in_front w ↦ rw (w.table-is, w.planes-is, w.seen-is, w.m-is, w.s-is) (omega arith, omega arith, parting_kept l.invariant.2 h c.requires.2 (sym c.in_front.ensures ∙ w.if-in_front.false))
+    ]
 
 pub returns-clause-faces : goal.returns-clause-faces
 returns-clause-faces c = parting_all c.loop-i.invariant.2 c.touch-q.ensures.is (search rules)
