@@ -1,4 +1,5 @@
 -- Building: what the hull of a checked list has, and the answer by its cases.
+use Rattle.std.specs.Prelude.{Result, Ok, Err}
 use mathlib.Core.Path.{◌≡◌, refl, sym, ap, ◌∙◌}
 use mathlib.Core.Bool.{Bool}
 use mathlib.Core.List.{List, [], ◌∷◌}
@@ -13,10 +14,10 @@ use lib.ListN.{length, take, get_or}
 use lib.Seq.{get_or-take}
 use Rattle.laws.specs.Lists.{every}
 use Rattle.laws.proofs.Tests.{and_both}
-use Rattle.touches.specs.declared.Refusal.{Refusal}
+use Rattle.touches.specs.declared.refusal.Refusal.TheVariants.{FaceTableTooSmall}
+use Rattle.touches.specs.declared.refusal.Refusal.{Refusal}
 use Rattle.touches.specs.Limits.{most_faces}
 use Rattle.touches.specs.Touches.{touch, touch_count, Sound}
-use Rattle.touches.specs.Refusals.{face_table_too_small, because}
 use Rattle.touches.specs.Check.{pick}
 use Rattle.rules.specs.Faces.{Face, Places}
 use Rattle.rules.specs.Building.{volume}
@@ -26,12 +27,11 @@ use Rattle.rules.proofs.Theorems.{start_order, hull_surface, accepted_few}
 use Rattle.cover.specs.Room.{enough}
 use Rattle.cover.proofs.Theorems.{hull_few}
 use Rattle.border.specs.Marks.{MarkTable, Fresh}
-use Rattle.points.specs.Whole.{plane_on}
-use Rattle.hull.specs.Build.{hull_of, built_from}
+use Rattle.points.specs.Whole.{Plane, plane_on}
+use Rattle.hull.specs.Build.{hull_of, hull_with, built_from}
 use Rattle.hull.specs.Whole.{Planed}
 use Rattle.hull.specs.Inner.{Ready, Begun, Taken, Builds}
-use Rattle.hull.specs.declared.build.Built.{Built}
-use Rattle.hull.specs.declared.build.Built.TheVariants.{Hull, Refused}
+use Rattle.hull.specs.declared.build.Hull.{Hull}
 
 -- ---- the hull of a list that passed refusals 1 to 3
 module _ {cs : List ℤ} (d : Sound cs) {h : List Face} (e : hull_of cs ≡ some h) where
@@ -47,21 +47,21 @@ module _ {cs : List ℤ} (d : Sound cs) {h : List Face} (e : hull_of cs ≡ some
 
 -- ---- the answer: refusal 5 or the hull
 module _ (p : Places) (n : ℕ) (h : List Face) where
-  by_room : {b : Bool} → leb (length h) n ≡ b → pick b (Hull (length h) (volume p h)) (Refused (because face_table_too_small)) ≡ built_from p n (some h)
-  by_room e = ap (λ (b : Bool). pick b (Hull (length h) (volume p h)) (Refused (because face_table_too_small))) (sym e)
+  by_room : {b : Bool} → leb (length h) n ≡ b → pick b (Ok (hull_with (length h) (volume p h))) (Err FaceTableTooSmall) ≡ built_from p n (some h)
+  by_room e = ap (λ (b : Bool). pick b (Ok (hull_with (length h) (volume p h))) (Err FaceTableTooSmall)) (sym e)
 
-  pub no_room : n < length h → {r : Refusal} → r ≡ because face_table_too_small → Refused r ≡ built_from p n (some h)
-  no_room l e = ap Refused e ∙ by_room (lt-leb (length h) n l)
+  pub no_room : n < length h → {r : Refusal} → r ≡ FaceTableTooSmall → Err r ≡ built_from p n (some h)
+  no_room l e = ap (λ (r : Refusal). Err r) e ∙ by_room (lt-leb (length h) n l)
 
-  pub given : length h ≤ n → {v : ℤ} → v ≡ volume p h → Hull (length h) v ≡ built_from p n (some h)
-  given l e = ap (Hull (length h)) e ∙ by_room (le-leb (length h) n l)
+  pub given : length h ≤ n → {v : ℤ} → v ≡ volume p h → Ok (hull_with (length h) v) ≡ built_from p n (some h)
+  given l e = ap (λ (v : ℤ). Ok (hull_with (length h) v)) e ∙ by_room (le-leb (length h) n l)
 
 -- with room for 2n − 4 faces the hull is never refused
-pub room_enough : (cs : List ℤ) {h : List Face} → hull_of cs ≡ some h → {n : ℕ} → enough (touch_count cs) ≤ n → Hull (length h) (volume (touch cs) h) ≡ built_from (touch cs) n (some h)
+pub room_enough : (cs : List ℤ) {h : List Face} → hull_of cs ≡ some h → {n : ℕ} → enough (touch_count cs) ≤ n → Ok (hull_with (length h) (volume (touch cs) h)) ≡ built_from (touch cs) n (some h)
 room_enough cs {h} e {n} b = given (touch cs) n h (le_trans (hull_few (touch cs) (touch_count cs) e) b) refl
 
 -- ---- the faces at the front of a table after the last touch
-module _ {cs : List ℤ} {s : Four} (b : Begun cs s) {m : ℕ} {table : List Face} {planes : List (List ℤ)} (t : Taken cs s (touch_count cs) m table planes) where
+module _ {cs : List ℤ} {s : Four} (b : Begun cs s) {m : ℕ} {table : List Face} {planes : List Plane} (t : Taken cs s (touch_count cs) m table planes) where
   pub front_hull : hull_of cs ≡ some (take m table)
   front_hull = hull_some (touch cs) (touch_count cs) b.begins ∙ ap some (sym t.faces)
 
@@ -76,7 +76,7 @@ module _ {cs : List ℤ} {s : Four} (b : Begun cs s) {m : ℕ} {table : List Fac
       planed = record { each = λ j l. let i : j < m = omega (arith, front_count) in record { is = (t.planed.each j i).is ∙ ap (plane_on (touch cs)) (sym (get_or-take m table j [] i)) } }
 
   -- and what it gives
-  pub front_builds : {old after : List ℕ} {r : Built} → Builds cs (some (take m table)) old r after → Builds cs (hull_of cs) old r after
+  pub front_builds : {old after : List ℕ} {r : Result Hull Refusal} → Builds cs (some (take m table)) old r after → Builds cs (hull_of cs) old r after
   front_builds w = rw front_hull w
 
 -- ---- the work tables before the first touch: marks for n touches, all 1

@@ -1,4 +1,5 @@
 -- Building and then placing: the part of the table that building wrote, handed to the placing call, answers for the hull.
+use Rattle.std.specs.Prelude.{Ok}
 use mathlib.Core.Path.{◌≡◌, refl, sym, ap, ◌∙◌}
 use mathlib.Core.Bool.{true}
 use mathlib.Core.List.{List, [], ◌∷◌}
@@ -52,20 +53,20 @@ module _ {cs : List ℤ} {old : List ℕ} {n : ℕ} {v : ℤ} {h : List Face} (i
       ∙ sym (place_looked cs (lent h) q (sound_accepted cs i.sound) (hull_usable i.sound i.is) w (ap (λ (g : List Face). placed_by (lies (touch cs) g q)) (sym (hull_back i.sound i.is))))
 
 -- ---- from the call's answer back to the rules'
-pub by_inside : (l : Lies) → placed_by l ≡ Inside → l ≡ inside
-by_inside (outside f d) e = let z : ◌≡◌ {A = ℕ} 0 1 = cc in absurd (omega arith)
-by_inside (on f) e = let z : ◌≡◌ {A = ℕ} 0 1 = cc in absurd (omega arith)
+pub by_inside : (l : Lies) → placed_by l ≡ Ok Inside → l ≡ inside
+by_inside (outside f d) e = cc
+by_inside (on f) e = cc
 by_inside inside e = refl
-by_inside astray e = let z : ◌≡◌ {A = ℕ} 0 1 = cc in absurd (omega arith)
+by_inside astray e = cc
 
-pub by_on : (l : Lies) {f : FaceNo} → placed_by l ≡ On f → l ≡ on f.0
-by_on (outside g d) {f} e = let z : ◌≡◌ {A = ℕ} 0 1 = cc in absurd (omega arith)
+pub by_on : (l : Lies) {f : FaceNo} → placed_by l ≡ Ok (On f) → l ≡ on f.0
+by_on (outside g d) {f} e = cc
 by_on (on g) {f} e = let t : face_no g ≡ f = cc in ap (λ (x : FaceNo). on x.0) t
-by_on inside {f} e = let z : ◌≡◌ {A = ℕ} 0 1 = cc in absurd (omega arith)
-by_on astray {f} e = let z : ◌≡◌ {A = ℕ} 0 1 = cc in absurd (omega arith)
+by_on inside {f} e = cc
+by_on astray {f} e = cc
 
-pub by_outside : (l : Lies) {f : FaceNo} {d : ℤ} → placed_by l ≡ Outside f d → l ≡ outside f.0 d
+pub by_outside : (l : Lies) {f : FaceNo} {d : ℤ} → placed_by l ≡ Ok (Outside f d) → l ≡ outside f.0 d
 by_outside (outside g c) {f} {d} e = let t : face_no g ≡ f = cc in let s : c ≡ d = cc in λ i. outside (t i).0 (s i)
-by_outside (on g) {f} {d} e = let z : ◌≡◌ {A = ℕ} 0 1 = cc in absurd (omega arith)
-by_outside inside {f} {d} e = let z : ◌≡◌ {A = ℕ} 0 1 = cc in absurd (omega arith)
-by_outside astray {f} {d} e = let z : ◌≡◌ {A = ℕ} 0 1 = cc in absurd (omega arith)
+by_outside (on g) {f} {d} e = cc
+by_outside inside {f} {d} e = cc
+by_outside astray {f} {d} e = cc

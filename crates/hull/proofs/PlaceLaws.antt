@@ -1,4 +1,6 @@
 -- Looking at a table's faces one after the other: the worst, the first of a kind, and what is settled.
+use Rattle.touches.specs.declared.refusal.Refusal.{Refusal}
+use Rattle.std.specs.Prelude.{Result, Ok, Err}
 use mathlib.Core.Path.{◌≡◌, refl, sym, ap, ap₂, subst, ◌∙◌}
 use mathlib.Core.Logic.{◌⊎◌, inl, inr, ◌≢◌}
 use mathlib.Core.Bool.{Bool, true, false, ◌&&◌}
@@ -21,13 +23,11 @@ use Rattle.laws.proofs.Tests.{same_or}
 use Rattle.laws.proofs.Order.{≤_trans, <-≤_trans, <→≤, ≡→≤, neg_pos, lt_true, lt_false, eq_z→eq}
 use Rattle.laws.proofs.Members.{in_get_or}
 use Rattle.laws.proofs.Turns.{first_turn, first_none_left}
+use Rattle.touches.specs.declared.refusal.Refusal.TheVariants.{NoSuchFace, PlaceOutOfRange}
 use Rattle.touches.specs.declared.FaceNo.{FaceNo}
 use Rattle.touches.specs.declared.Point.{Point}
-use Rattle.touches.specs.declared.TouchList.{TouchList}
-use Rattle.touches.specs.declared.Checked.TheVariants.{Accepted}
 use Rattle.touches.specs.Limits.{place_in_range}
 use Rattle.touches.specs.Touches.{touch, touch_count, face_no}
-use Rattle.touches.specs.Refusals.{no_such_face, place_out_of_range, because}
 use Rattle.touches.specs.Check.{pick, checked, if_accepted}
 use Rattle.volume.specs.Volume.{most_volume, is_zero}
 use Rattle.volume.specs.Triangle.{contains}
@@ -43,7 +43,6 @@ use Rattle.hull.specs.Inner.{worse, settled}
 use Rattle.hull.specs.Place.{placed_by, placed}
 use Rattle.hull.specs.declared.place.Worst.{Worst}
 use Rattle.hull.specs.declared.place.Placed.{Placed}
-use Rattle.hull.specs.declared.place.Placed.TheVariants.{Refused}
 
 -- ---- the first face of a kind
 abbrev or_else : Option FaceNo → Maybe ℕ → Maybe ℕ
@@ -178,7 +177,7 @@ module _ (cs : List ℤ) (q : Point) where
           ∙ sym (ap placed_by (lies_behind (touch cs) (faces_in t) q (behind h k)))
 
 -- ---- the answer where the three tests are passed
-pub place_looked : (cs : List ℤ) (t : List ℕ) (q : Point) {l : TouchList} → checked cs ≡ Accepted l → usable (touch_count cs) t ≡ true → place_in_range q ≡ true
-    → {x : Placed} → x ≡ placed_by (lies (touch cs) (faces_in t) q) → x ≡ placed cs t q
+pub place_looked : (cs : List ℤ) (t : List ℕ) (q : Point) {l : List ℤ} → checked cs ≡ Ok l → usable (touch_count cs) t ≡ true → place_in_range q ≡ true
+    → {x : Result Placed Refusal} → x ≡ placed_by (lies (touch cs) (faces_in t) q) → x ≡ placed cs t q
 place_looked cs t q e u r x =
-    x ∙ sym (λ j. if_accepted (e j) Refused (pick (u j) (pick (r j) (placed_by (lies (touch cs) (faces_in t) q)) (Refused (because place_out_of_range))) (Refused (because no_such_face))))
+    x ∙ sym (λ j. if_accepted (e j) (pick (u j) (pick (r j) (placed_by (lies (touch cs) (faces_in t) q)) (Err PlaceOutOfRange)) (Err NoSuchFace)))

@@ -94,7 +94,7 @@ tables_kept t a b c d = record { room = omega (arith, t.room, a); planes_long = 
 
 -- ---- the start
 start_some : (o : Option Four) {f : Start} → From f ≡ started_of o → o ≡ some (start_of f)
-start_some none e = let z : ◌≡◌ {A = ℕ} 0 1 = cc in absurd (omega arith)
+start_some none e = cc
 start_some (some s) {f} e = ap some (ap start_of (sym g))
   where
     g : f ≡ record { p = record { 0 = s.P }; q = record { 0 = s.Q }; r = record { 0 = s.R }; s = record { 0 = s.S } }
@@ -102,7 +102,7 @@ start_some (some s) {f} e = ap some (ap start_of (sym g))
 
 start_none : (o : Option Four) → Flat ≡ started_of o → o ≡ none
 start_none none e = refl
-start_none (some s) e = let z : ◌≡◌ {A = ℕ} 0 1 = cc in absurd (omega arith)
+start_none (some s) e = cc
 
 module _ (cs : List ℤ) {n : ℕ} (c : n ≡ touch_count cs) where
   pub hull_flat : Flat ≡ started_of (start (touch cs) n) → hull_of cs ≡ none

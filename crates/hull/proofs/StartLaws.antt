@@ -25,10 +25,10 @@ use Rattle.hull.specs.declared.start.Started.TheVariants.{Flat, From}
 -- ---- what a search gave, as the rule has it
 found_none : (o : Option ℕ) → Nowhere ≡ found_of o → o ≡ none
 found_none none e = refl
-found_none (some k) e = let z : ◌≡◌ {A = ℕ} 0 1 = cc in absurd (omega arith)
+found_none (some k) e = cc
 
 found_at : (o : Option ℕ) {k : TouchNo} → At k ≡ found_of o → o ≡ some k.0
-found_at none e = let z : ◌≡◌ {A = ℕ} 0 1 = cc in absurd (omega arith)
+found_at none e = cc
 found_at (some j) {k} e = let t : k ≡ touch_no j = cc in ap (λ (t : TouchNo). some t.0) (sym t)
 
 module _ (p : Places) (n : ℕ) (what : Sought) where

@@ -1,13 +1,15 @@
 -- What the inner steps of building and placing take for granted, and what they leave.
+use Rattle.touches.specs.declared.refusal.Refusal.{Refusal}
+use Rattle.std.specs.Prelude.{Result, Ok, Err}
 use Rattle.std.specs.Prelude.{◌≡◌, Bool, List, ℕ, ◌<◌, ◌≤◌, ℤ, pos, neg_ℤ, length, take}
 use Rattle.std.specs.Prelude.{Option, Some, None}
 use Rattle.std.proofs.Math.Option.{Option as Maybe, some}
 use Rattle.std.specs.Int.Signed.{lt_z}
 use Rattle.laws.specs.Lists.{In, Laid}
+use Rattle.touches.specs.declared.refusal.Refusal.TheVariants.{PlaceInNoTriangle}
 use Rattle.touches.specs.declared.Point.{Point}
 use Rattle.touches.specs.declared.FaceNo.{FaceNo}
 use Rattle.touches.specs.Touches.{touch_count, touch, Sound}
-use Rattle.touches.specs.Refusals.{place_in_no_triangle, because}
 use Rattle.touches.specs.Check.{pick}
 use Rattle.rules.specs.Faces.{Face, face_vol}
 use Rattle.rules.specs.Start.{Start, start}
@@ -16,12 +18,13 @@ use Rattle.rules.specs.Demands.{FaceOf}
 use Rattle.cover.specs.Room.{enough}
 use Rattle.table.specs.Table.{room}
 use Rattle.border.specs.declared.marks.Marks.{Marks}
+use Rattle.points.specs.Whole.{Plane}
 use Rattle.hull.specs.Whole.{Planed}
 use Rattle.hull.specs.Build.{built_from, table_after}
-use Rattle.hull.specs.declared.build.Built.{Built}
+use Rattle.hull.specs.declared.build.Hull.{Hull}
 use Rattle.hull.specs.declared.place.Worst.{Worst}
 use Rattle.hull.specs.declared.place.Placed.{Placed}
-use Rattle.hull.specs.declared.place.Placed.TheVariants.{Outside, On, Inside, Refused}
+use Rattle.hull.specs.declared.place.Placed.TheVariants.{Outside, On, Inside}
 
 -- q is strictly in front of face f
 abbrev pub in_front : List ℤ → Point → Face → Bool
@@ -45,20 +48,20 @@ pub record Begun (cs : List ℤ) (s : Start) : Type 0 where
   pub begins : start (touch cs) (touch_count cs) ≡ some s
 
 -- the first m faces of a table are those after the start s and the other touches below k, and have their planes
-pub record Taken (cs : List ℤ) (s : Start) (k m : ℕ) (table : List Face) (planes : List (List ℤ)) : Type 0 where
+pub record Taken (cs : List ℤ) (s : Start) (k m : ℕ) (table : List Face) (planes : List Plane) : Type 0 where
   pub count : m ≡ length (after (touch cs) s (others s k))
   pub faces : take m table ≡ after (touch cs) s (others s k)
   pub planed : Planed cs m table planes
 
 -- tables to build in for the touches cs, with room for every face list of every step: one length for all but the marks
-pub record Tables (cs : List ℤ) (table : List Face) (planes : List (List ℤ)) (seen : List Face) (marks : Marks) : Type 0 where
+pub record Tables (cs : List ℤ) (table : List Face) (planes : List Plane) (seen : List Face) (marks : Marks) : Type 0 where
   pub room : enough (touch_count cs) ≤ length table
   pub planes_long : length planes ≡ length table
   pub seen_long : length seen ≡ length table
   pub mark_width : marks.width ≡ touch_count cs
 
 -- what building gives and leaves in the lent table: one contract, whatever tables it works in; h is the face list
-pub record Builds (cs : List ℤ) (h : Maybe (List Face)) (old : List ℕ) (r : Built) (after : List ℕ) : Type 0 where
+pub record Builds (cs : List ℤ) (h : Maybe (List Face)) (old : List ℕ) (r : Result Hull Refusal) (after : List ℕ) : Type 0 where
   pub answer : r ≡ built_from (touch cs) (room old) h
   pub table : after ≡ table_after r h old
 
@@ -72,8 +75,8 @@ abbrev pub worse : Option Worst → FaceNo → ℤ → Option Worst
 worse w f v = pick (is_worse w v) (Some (record { face = f; v = v })) w
 
 -- a face in front comes before one that holds the place, and that before one whose plane does
-abbrev pub settled : Option Worst → Option FaceNo → Option FaceNo → Placed
-settled (Some w) o e = Outside w.face (neg_ℤ w.v)
-settled None (Some f) e = On f
-settled None None (Some f) = Refused (because place_in_no_triangle)
-settled None None None = Inside
+abbrev pub settled : Option Worst → Option FaceNo → Option FaceNo → Result Placed Refusal
+settled (Some w) o e = Ok (Outside w.face (neg_ℤ w.v))
+settled None (Some f) e = Ok (On f)
+settled None None (Some f) = Err PlaceInNoTriangle
+settled None None None = Ok Inside

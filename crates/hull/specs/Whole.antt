@@ -4,16 +4,20 @@ use Rattle.touches.specs.declared.Point.{Point}
 use Rattle.touches.specs.Touches.{touch}
 use Rattle.volume.specs.Volume.{dot}
 use Rattle.rules.specs.Faces.{Face}
-use Rattle.points.specs.Whole.{plane_on, slope}
+use Rattle.points.specs.Whole.{Plane, plane_on}
 
 -- what V is, read from the plane
-abbrev pub read_at : List ℤ → Point → ℤ
-read_at w q = get_or w 3 (pos 0) -ℤ dot (slope w) q
+abbrev pub read_at : Plane → Point → ℤ
+read_at w q = w.offset -ℤ dot w.normal q
+
+-- what a table of planes starts with
+abbrev pub no_plane : Plane
+no_plane = record { normal = record { x = pos 0; y = pos 0; z = pos 0 }; offset = pos 1 }
 
 -- plane number j of a table is that of face number j
-pub record PlanedAt (cs : List ℤ) (faces : List Face) (planes : List (List ℤ)) (j : ℕ) : Type 0 where
-  pub is : get_or planes j [] ≡ plane_on (touch cs) (get_or faces j [])
+pub record PlanedAt (cs : List ℤ) (faces : List Face) (planes : List Plane) (j : ℕ) : Type 0 where
+  pub is : get_or planes j no_plane ≡ plane_on (touch cs) (get_or faces j [])
 
 -- so are the first m
-pub record Planed (cs : List ℤ) (m : ℕ) (faces : List Face) (planes : List (List ℤ)) : Type 0 where
+pub record Planed (cs : List ℤ) (m : ℕ) (faces : List Face) (planes : List Plane) : Type 0 where
   pub each : (j : ℕ) → j < m → PlanedAt cs faces planes j
