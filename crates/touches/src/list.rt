@@ -51,7 +51,8 @@ impl TouchList<'_> {
     }
 
     pub fn count(&self) -> usize
-        ensures { result ≡ touch_count self.now }
+        ensures is { result ≡ touch_count self.now }
+        ensures sound { Sound self.now }
     {
         self.coords().len() / 3
     }
