@@ -2,42 +2,32 @@
 #![tactic(auto)]
 
 ghost use Rattle.std.specs.Prelude.{◌≡◌, ◌≤◌, length};
-ghost use Rattle.planes.specs.Planes.{planed, planed_refusal, planed_plane, plane_reading, reading_refusal, reading_value};
+ghost use Rattle.planes.specs.Planes.{planed, planed_plane, plane_reading, reading_value};
 ghost use Rattle.hull.specs.Build.{hull_of, built, table_after};
 ghost use Rattle.hull.specs.Place.{placed};
 ghost use Rattle.plumb.specs.Plumb.{plumbed};
 ghost use Rattle.records.specs.Record.{plain_version, record_of, touches_in};
-ghost use Rattle.records.specs.Answers.{read_of, write_of, copy_of, list_after, buffer_after, read_numbers, write_numbers};
-ghost use Rattle.numbers.specs.Numbers.{numbers, built_numbers, placed_numbers, plane_numbers, plumbed_numbers, plumbed_heights, record_numbers, one, place_at};
+ghost use Rattle.records.specs.Answers.{read_of, write_of, copy_of, list_after, buffer_after, count_given};
+ghost use Rattle.numbers.specs.Numbers.{said, built_numbers, placed_numbers, plane_numbers, plumbed_numbers, plumbed_heights, record_numbers, one, place_at};
 
-use numbers::{wide8, wide16};
-use records::Numbers;
-use touches::{Point, TouchNo};
-
-fn wide32(x: i32) -> i64
-    ensures { result ≡ x }
-{
-    x as i64
-}
+use touches::{Point, Refusal, TouchNo};
 
 // A record's numbers: its count of touches or bytes is small.
-fn record_numbers(n: Numbers) -> [i64; 3]
-    requires { n.count ≤ 65535 }
-    ensures { result ≡ record_numbers n }
+fn record_numbers(a: Result<usize, Refusal>) -> [i64; 3]
+    requires { count_given a ≤ 65535 }
+    ensures { result ≡ record_numbers a }
 {
-    let number = n.number;
-    let place = n.place.0;
-    let count = n.count;
-    [wide8(number), wide16(place), wide16(count as u16)]
+    let [number, place] = numbers::said(&a);
+    [number, place, a.unwrap_or(0) as i64]
 }
 
 fn place_at(x: i32, y: i32, z: i32) -> Point
     ensures { result ≡ place_at x y z }
 {
     Point {
-        x: x as i64,
-        y: y as i64,
-        z: z as i64,
+        x: i64::from(x),
+        y: i64::from(y),
+        z: i64::from(z),
     }
 }
 
@@ -72,11 +62,11 @@ pub extern "C" fn chienlohup_plane(
     out: &mut [i64; 2],
     plane: &mut [f64; 4],
 )
-    ensures said { out.new ≡ numbers (planed_refusal (planed touches.now a b c)) }
+    ensures said { out.new ≡ said (planed touches.now a b c) }
     ensures plane { plane.new ≡ plane_numbers (planed_plane (planed touches.now a b c)) }
 {
     let answer = planes::plane_of(touches, TouchNo(a), TouchNo(b), TouchNo(c));
-    *out = numbers::planed_said(answer);
+    *out = numbers::said(&answer);
     *plane = numbers::plane_numbers(answer);
 }
 
@@ -92,12 +82,12 @@ pub extern "C" fn chienlohup_plane_reading(
     out: &mut [i64; 2],
     reading: &mut [f64; 1],
 )
-    ensures said { out.new ≡ numbers (reading_refusal (plane_reading touches.now a b c (place_at x y z))) }
+    ensures said { out.new ≡ said (plane_reading touches.now a b c (place_at x y z)) }
     ensures reading { reading.new ≡ one (reading_value (plane_reading touches.now a b c (place_at x y z))) }
 {
     let q = place_at(x, y, z);
     let answer = planes::plane_reading(touches, TouchNo(a), TouchNo(b), TouchNo(c), q);
-    *out = numbers::reading_said(answer);
+    *out = numbers::said(&answer);
     *reading = numbers::reading_number(answer);
 }
 
@@ -112,31 +102,31 @@ pub extern "C" fn chienlohup_plumb(
     ensures said { out.new ≡ plumbed_numbers (plumbed touches.now x y) }
     ensures heights { heights.new ≡ plumbed_heights (plumbed touches.now x y) }
 {
-    let answer = plumb::plumb(touches, wide32(x), wide32(y));
+    let answer = plumb::plumb(touches, i64::from(x), i64::from(y));
     *out = numbers::plumbed_numbers(answer);
     *heights = numbers::plumbed_heights(answer);
 }
 
 #[unsafe(no_mangle)]
 pub extern "C" fn chienlohup_read(bytes: &[u8], touches: &mut [i32], out: &mut [i64; 3])
-    ensures said { out.new ≡ record_numbers (read_numbers (read_of plain_version bytes.now (length touches.old))) }
+    ensures said { out.new ≡ record_numbers (read_of plain_version bytes.now (length touches.old)) }
     ensures table { touches.new ≡ list_after (read_of plain_version bytes.now (length touches.old)) (touches_in bytes.now) touches.old }
 {
-    *out = record_numbers(records::read_numbers(records::read(bytes, touches)));
+    *out = record_numbers(records::read(bytes, touches));
 }
 
 #[unsafe(no_mangle)]
 pub extern "C" fn chienlohup_write(touches: &[i32], buffer: &mut [u8], out: &mut [i64; 3])
-    ensures said { out.new ≡ record_numbers (write_numbers (write_of touches.now (length buffer.old))) }
+    ensures said { out.new ≡ record_numbers (write_of touches.now (length buffer.old)) }
     ensures table { buffer.new ≡ buffer_after (write_of touches.now (length buffer.old)) (record_of plain_version touches.now) buffer.old }
 {
-    *out = record_numbers(records::write_numbers(records::write(touches, buffer)));
+    *out = record_numbers(records::write(touches, buffer));
 }
 
 #[unsafe(no_mangle)]
 pub extern "C" fn chienlohup_copy(bytes: &[u8], buffer: &mut [u8], out: &mut [i64; 3])
-    ensures said { out.new ≡ record_numbers (write_numbers (copy_of plain_version bytes.now (length buffer.old))) }
+    ensures said { out.new ≡ record_numbers (copy_of plain_version bytes.now (length buffer.old)) }
     ensures table { buffer.new ≡ buffer_after (copy_of plain_version bytes.now (length buffer.old)) bytes.now buffer.old }
 {
-    *out = record_numbers(records::write_numbers(records::copy(bytes, buffer)));
+    *out = record_numbers(records::copy(bytes, buffer));
 }
