@@ -40,7 +40,8 @@ pub fn add_cone(
         × (k.0 < most_touches) × (at + length (map (cone k.0) (border seen.now)) ≤ length table.old) }
     ensures faces { Laid at (map (cone k.0) (border seen.now)) table.old result table.new }
     ensures marks { Fresh (k.0 + 1) marks.new.table.now }
-    ensures width { marks.new.width ≡ marks.old.width }
+    ensures same_table { marks.new.table.ghost_name ≡ marks.old.table.ghost_name }
+    ensures same_width { marks.new.width ≡ marks.old.width }
 {
     marks.mark_all(seen, k);
     add_marked(table, at, seen, marks, k)

@@ -28,6 +28,7 @@ impl<'a> Marks<'a> {
     pub fn new(table: &'a mut [u16], width: usize) -> Marks<'a>
         requires { MarkTable width table.old }
         ensures table { result.table.now ≡ table.old }
+        ensures same_table { result.table.ghost_name ≡ table.entry.ghost_name }
         ensures width { result.width ≡ width }
     {
         Marks { table, width }
@@ -45,6 +46,7 @@ impl<'a> Marks<'a> {
     fn mark_side(&mut self, a: TouchNo, b: TouchNo, k: TouchNo)
         requires { (a.0 < self.old.width) × (b.0 < self.old.width) × (k.0 < most_touches) }
         ensures marks { self.new.table.now ≡ mark_side self.old.width k.0 (side a.0 b.0) self.old.table.now }
+        ensures same_table { self.new.table.ghost_name ≡ self.old.table.ghost_name }
         ensures same_width { self.new.width ≡ self.old.width }
     {
         let at = self.place(a, b);
@@ -55,6 +57,7 @@ impl<'a> Marks<'a> {
     fn mark_sides(&mut self, f: [u16; 3], k: TouchNo)
         requires { CornersIn (λ t. t < self.old.width) f × (k.0 < most_touches) }
         ensures marks { self.new.table.now ≡ mark_sides self.old.width k.0 (sides_of f) self.old.table.now }
+        ensures same_table { self.new.table.ghost_name ≡ self.old.table.ghost_name }
         ensures same_width { self.new.width ≡ self.old.width }
     {
         let [a, b, c] = f;
@@ -68,6 +71,7 @@ impl<'a> Marks<'a> {
         requires { Fresh k.0 self.old.table.now × (k.0 < most_touches) × FacesOver self.old.width seen.now }
         ensures marked { Marked self.old.width k.0 seen.now self.new.table.now }
         ensures fresh { Fresh (k.0 + 1) self.new.table.now }
+        ensures same_table { self.new.table.ghost_name ≡ self.old.table.ghost_name }
         ensures same_width { self.new.width ≡ self.old.width }
     {
         for &f in seen {

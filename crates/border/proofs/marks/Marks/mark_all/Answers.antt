@@ -12,7 +12,8 @@ loop-f-preserved c =
     let l = c.loop-f in
     let q = c.mark_sides.ensures in (
       q.same_width ∙ l.invariant.0,
-      l.invariant.1 ∙ face_turn a.self.now.width a.k.0 a.seen.now l.f-index l.self.table.now (search rules) ∙ rw (q.marks, l.invariant.0),
+      q.same_table ∙ l.invariant.1,
+      l.invariant.2 ∙ face_turn a.self.now.width a.k.0 a.seen.now l.f-index l.self.table.now (search rules) ∙ rw (q.marks, l.invariant.0),
     )
 
 pub returns : goal.returns
@@ -21,5 +22,5 @@ returns c =
     let l = c.loop-f in
     let h = c.requires in
     let t = a.self.now.fits in
-    let e = l.invariant.1 ∙ face_end a.self.now.width a.k.0 a.seen.now l.f-index l.self.table.now (search rules) in
-    record { marked = all_marked t h.0 h.2 e; fresh = all_fresh t h.0 h.2 e; same_width = l.invariant.0 }
+    let e = l.invariant.2 ∙ face_end a.self.now.width a.k.0 a.seen.now l.f-index l.self.table.now (search rules) in
+    record { marked = all_marked t h.0 h.2 e; fresh = all_fresh t h.0 h.2 e; same_table = l.invariant.1; same_width = l.invariant.0 }
