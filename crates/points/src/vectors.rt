@@ -35,8 +35,8 @@ fn cross(u: Point, v: Point) -> Point
     }
 }
 
-pub fn dot(u: Point, v: Place) -> i64
-    requires { Small most_normal u }
+pub fn dot(u: Point, v: Point) -> i64
+    requires { Small most_normal u × Small most_gap v }
     ensures { Number most_volume (dot u v) result }
 {
     u.x * v.x + u.y * v.y + u.z * v.z

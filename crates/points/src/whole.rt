@@ -32,7 +32,7 @@ fn through(a: Place, b: Place, c: Place) -> WholePlane
     ensures { result ≡ whole_plane a b c }
 {
     let n = normal(a, b, c);
-    let offset = dot(n, a);
+    let offset = dot(n, Point::from(a));
     WholePlane { normal: n, offset }
 }
 

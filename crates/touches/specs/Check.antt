@@ -1,7 +1,7 @@
 -- 01 'Refusal numbers': 1, 2 and 3 of a lent coordinate list, in this order; the place of 3 is the first such touch.
-use Rattle.std.specs.Prelude.{ℕ, suc, ◌*◌, ◌/◌, ◌%◌, List, [], ◌∷◌, Bool, true, false, leb, eqb, ℤ, length, Option, None, Some, Result, Ok, Err}
+use Rattle.std.specs.Prelude.{◌≡◌, ℕ, suc, ◌*◌, ◌/◌, ◌%◌, List, [], ◌∷◌, Bool, true, false, leb, eqb, ℤ, length, Option, None, Some, Result, Ok, Err}
 use Rattle.touches.specs.Limits.{most_touches, in_range, place_in_range}
-use Rattle.touches.specs.Touches.{touch_no}
+use Rattle.touches.specs.Touches.{touch_no, Near}
 use Rattle.touches.specs.declared.TouchNo.{TouchNo}
 use Rattle.touches.specs.declared.refusal.Refusal.{Refusal}
 use Rattle.touches.specs.declared.refusal.Refusal.TheVariants.{CoordinatesNotInThrees, TooManyTouches, CoordinateOutOfRange, PlaceOutOfRange}
@@ -35,3 +35,8 @@ if_accepted (Err r) a = Err r
 -- refusal 7 of a place
 abbrev pub place_checked : Point → Result Point Refusal
 place_checked q = pick (place_in_range q) (Ok q) (Err PlaceOutOfRange)
+
+-- the point r is the place p, which is in range
+pub record IsPlace (p r : Point) : Type 0 where
+  pub is : r ≡ p
+  pub near : Near r

@@ -24,6 +24,20 @@ impl Model for Place {
     ghost inverse = { λ p. record { x = p.x; y = p.y; z = p.z } };
 }
 
+impl From<Place> for Point {
+    ghost use Rattle.touches.specs.Check.{IsPlace};
+
+    ghost from_gives = { IsPlace };
+
+    fn from(p: Place) -> Point {
+        Point {
+            x: p.x,
+            y: p.y,
+            z: p.z,
+        }
+    }
+}
+
 impl TryFrom<Point> for Place {
     type Error = Refusal;
 

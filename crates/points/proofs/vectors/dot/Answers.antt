@@ -1,4 +1,3 @@
-use mathlib.Core.Path.{ap, ◌∙◌}
 use Prim.Native.Nat.{◌*◌}
 use lib.IntN.{ℤ, ◌*ℤ◌, ◌+ℤ◌}
 use mir.Syntax.{w64}
@@ -6,9 +5,8 @@ use Rattle.laws.specs.Numbers.{Within}
 use Rattle.laws.proofs.Words.{Reads, r_i64, r_mul, r_add, fits, stored, size}
 use Rattle.touches.specs.declared.Point.{Point}
 use Rattle.touches.specs.Touches.{Small}
-use Rattle.volume.specs.Volume.{most_gap, most_normal, most_volume, dot}
+use Rattle.volume.specs.Volume.{most_gap, most_normal, most_volume}
 use Rattle.points.proofs.NumberLaws.{rd}
-use Rattle.points.proofs.PlaneLaws.{gap_near}
 use Rattle.points.proofs.vectors.dot.Goals as goal
 
 part : {p q : ℤ} → Within most_normal p → Within most_gap q → Reads (most_normal * most_gap) (rd p *ℤ rd q) (p *ℤ q)
@@ -22,22 +20,22 @@ module _ {u v : Point} (h : Small most_normal u) (k : Small most_gap v) where
   three = r_add (stored w64 two tt) (stored w64 (part h.z k.z) tt)
 
 pub overflow_mul-result : goal.overflow_mul-result
-overflow_mul-result c = let h = c.requires in let k = gap_near c.v.invariant in fits w64 (part h.x k.x) tt
+overflow_mul-result c = let h = c.requires in fits w64 (part h.0.x h.1.x) tt
 
 pub overflow_mul-result-2 : goal.overflow_mul-result-2
-overflow_mul-result-2 c = let h = c.requires in let k = gap_near c.v.invariant in fits w64 (part h.y k.y) tt
+overflow_mul-result-2 c = let h = c.requires in fits w64 (part h.0.y h.1.y) tt
 
 pub overflow_add-result : goal.overflow_add-result
-overflow_add-result c = let h = c.requires in let k = gap_near c.v.invariant in fits w64 (two h k) tt
+overflow_add-result c = let h = c.requires in fits w64 (two h.0 h.1) tt
 
 pub overflow_mul-result-3 : goal.overflow_mul-result-3
-overflow_mul-result-3 c = let h = c.requires in let k = gap_near c.v.invariant in fits w64 (part h.z k.z) tt
+overflow_mul-result-3 c = let h = c.requires in fits w64 (part h.0.z h.1.z) tt
 
 pub overflow_add-result-2 : goal.overflow_add-result-2
-overflow_add-result-2 c = let h = c.requires in let k = gap_near c.v.invariant in fits w64 (three h k) tt
+overflow_add-result-2 c = let h = c.requires in fits w64 (three h.0 h.1) tt
 
 pub returns : goal.returns
 returns c =
-    let h = c.requires in let k = gap_near c.v.invariant in
-    let r = stored w64 (three h k) tt in
-    record { is = r.is ∙ ap (dot c.args.u) c.v.view_is; small = size r }
+    let h = c.requires in
+    let r = stored w64 (three h.0 h.1) tt in
+    record { is = r.is; small = size r }

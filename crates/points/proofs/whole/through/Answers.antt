@@ -1,4 +1,4 @@
-use mathlib.Core.Path.{ap, ◌∙◌}
+use mathlib.Core.Path.{ap₂, ◌∙◌}
 use Rattle.touches.specs.declared.Point.{Point}
 use Rattle.volume.specs.Volume.{dot, offset}
 use Rattle.points.proofs.NumberLaws.{back}
@@ -8,5 +8,5 @@ pub returns : goal.returns
 unfolding offset
 returns c =
     let n = c.normal-n.ensures in
-    let o = back tt c.dot-offset.ensures ∙ ap (λ (p : Point). dot p c.args.a) n.is in
+    let o = back tt c.dot-offset.ensures ∙ ap₂ dot n.is c.from.ensures.is in
     λ i. record { normal = n.is i; offset = o i }
