@@ -1,5 +1,5 @@
 -- The body of a record: its length and its bytes, the coordinates of its touches, and the way there and back.
-use mathlib.Core.Path.{◌≡◌, refl, ◌∙◌, ap}
+use mathlib.Core.Path.{◌≡◌, refl, sym, ◌∙◌, ap, ap₂}
 use mathlib.Core.Bool.{Bool, true, false}
 use mathlib.Core.List.{List, [], ◌∷◌, ◌++◌}
 use Prim.Native.Nat.{ℕ, zero, suc, ◌+◌, ◌*◌, ◌/◌, ◌%◌, ◌<◌, ◌≤◌}
@@ -8,10 +8,10 @@ use native.Mathlib.Omega.{arith}
 use borrow.Author.Tests.{eqb-true, eqb-false}
 use lib.Dec.{eqb}
 use lib.IntN.{ℤ, pos}
-use lib.ListN.{length, take, drop, get_or}
-use lib.Seq.{take-suc, take_all, get_or-drop, ext_get_or}
+use lib.ListN.{length, take, drop, get_or, length-append, length-drop, get_or-append}
+use lib.Seq.{take-suc, get_or-drop, drop_at, drop-drop, ext_get_or}
 use Rattle.touches.specs.Touches.{Sound}
-use Rattle.records.specs.Record.{two_bytes, of_two, bits16, body_of, coordinate_at, first_touches, touches_of, AreBytes}
+use Rattle.records.specs.Record.{two_bytes, of_two, bits16, signed16, body_of, coordinate_at, first_touches, touches_of, AreBytes}
 use Rattle.records.proofs.WordLaws.{two_back, high_of, low_of, of_two_below, signed_back, bits_back, bits_below}
 
 -- ---- the body of a list
@@ -32,9 +32,6 @@ body_none = refl
 pub body_more : (cs : List ℤ) (i : ℕ) → i < length cs → body_of (take (i + 1) cs) ≡ body_of (take i cs) ++ two_bytes (bits16 (get_or cs i (pos 0)))
 unfolding body_of
 body_more cs i h = rw (add-one, take-suc cs i (pos 0), body_append (take i cs) (get_or cs i (pos 0) ∷ []))
-
-pub body_all : (cs : List ℤ) (i : ℕ) → length cs ≤ i → body_of (take i cs) ≡ body_of cs
-body_all cs i h = rw (take_all i cs h)
 
 -- the two bytes of coordinate i
 pub record TwoAt (i n : ℕ) (body : List ℕ) : Type 0 where
@@ -77,6 +74,24 @@ first_at (suc k) body (suc (suc (suc i))) h =
 pub touch_at : (body : List ℕ) (i : ℕ) → i < length body / 6 * 3 → get_or (touches_of body) i (pos 0) ≡ coordinate_at (i * 2) body
 unfolding touches_of
 touch_at body i h = first_at (length body / 6) body i h
+
+-- a pair of bytes that begins at the place of coordinate i, and what is left after it
+module _ (body pair rest : List ℕ) (i : ℕ) (cut : drop (i * 2) body ≡ pair ++ rest) (two : length pair ≡ 2) where
+  pub pair_inside : i * 2 + 2 ≤ length body
+  pair_inside = omega (arith, two, simp (length-drop, length-append) at (ap length cut))
+
+  pair_at : (j : ℕ) → j < 2 → get_or pair j 0 ≡ get_or body (i * 2 + j) 0
+  pair_at j h = sym (get_or-append pair rest 0 j (omega (arith, two))) ∙ ap (λ (l : List ℕ). get_or l j 0) (sym cut) ∙ get_or-drop (i * 2) body j 0
+
+  pub pair_is : signed16 (of_two (get_or pair 0 0) (get_or pair 1 0)) ≡ coordinate_at (i * 2) body
+  pair_is =
+      let z : i * 2 + 0 ≡ i * 2 = omega arith in
+      ap₂ (λ (h l : ℕ). signed16 (of_two h l)) (rw z at (pair_at 0 (omega arith))) (pair_at 1 (omega arith))
+
+  pub pair_rest : rest ≡ drop ((i + 1) * 2) body
+  pair_rest =
+      let e : i * 2 + 2 ≡ (i + 1) * 2 = omega arith in
+      sym (drop_at pair rest 2 two) ∙ ap (drop 2) (sym cut) ∙ drop-drop 2 (i * 2) body ∙ ap (λ (k : ℕ). drop k body) e
 
 -- ---- there and back
 pub touches_back : (cs : List ℤ) → Sound cs → touches_of (body_of cs) ≡ cs

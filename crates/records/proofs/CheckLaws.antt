@@ -1,57 +1,36 @@
--- Refusals 8, 9, 10 and 2 of a record, each from the tests before it; and what an accepted record has.
+-- Refusal 2 of a record, from the tests before it; and what an accepted record has.
 use mathlib.Core.Path.{◌≡◌, refl, ◌∙◌}
 use mathlib.Core.Bool.{Bool, true, false, ◌&&◌}
 use mathlib.Core.List.{List}
 use Prim.Native.Nat.{ℕ, ◌-◌, ◌*◌, ◌/◌, ◌%◌, ◌<◌, ◌≤◌}
 use native.Mathlib.Omega.{arith}
-use borrow.Author.Tests.{le-leb, lt-leb, leb-true, eq-eqb, ne_eqb, eqb-true}
+use borrow.Author.Tests.{le-leb, lt-leb, leb-true, eq-eqb, eqb-true}
 use lib.Dec.{leb, eqb}
 use lib.ListN.{length, drop, length-drop}
 use Rattle.touches.specs.Limits.{most_touches}
-use Rattle.touches.specs.Refusals.{too_many_touches, record_length_wrong, record_version_unknown, record_touch_cut_short, because}
+use Rattle.touches.specs.Refusals.{too_many_touches, because}
 use Rattle.touches.specs.Check.{checked}
 use Rattle.touches.specs.declared.TouchList.{TouchList}
 use Rattle.touches.specs.declared.Checked.TheVariants.{Accepted, Refused}
 use Rattle.records.specs.Record.{count_in, version_in, touches_in}
 use Rattle.records.specs.Answers.{unless, checked_record}
 use Rattle.records.proofs.BodyLaws.{length_touches, touches_whole}
-use Rattle.records.proofs.SoundLaws.{never}
 
-module _ (version : ℕ) (r : List ℕ) where
-  pub is_short : length r < 3 → checked_record version r ≡ Refused (because record_length_wrong)
+-- past the tests of 8, 9 and 10
+module _ (version : ℕ) (r : List ℕ) (long : 3 ≤ length r) (count : count_in r ≡ length r - 2) (same : version_in r ≡ version) (whole : (count_in r - 1) % 6 ≡ 0) where
+  pub is_touches : checked_record version r ≡ checked (touches_in r)
   unfolding checked_record
-  is_short h = rw (lt-leb 3 (length r) h)
+  is_touches = rw (le-leb 3 (length r) long, eq-eqb (count_in r) (length r - 2) count, eq-eqb (version_in r) version same, eq-eqb ((count_in r - 1) % 6) 0 whole)
 
-  -- ---- past the tests of 8, 9 and 10
-  module _ (long : 3 ≤ length r) where
-    pub is_miscounted : (count_in r ≡ length r - 2 → ⊥) → checked_record version r ≡ Refused (because record_length_wrong)
-    unfolding checked_record
-    is_miscounted h = rw (le-leb 3 (length r) long, ne_eqb (count_in r) (length r - 2) h)
+  length_touches_in : length (touches_in r) ≡ (count_in r - 1) / 6 * 3
+  length_touches_in = omega (arith, length_touches (drop 3 r), length-drop 3 r)
 
-    module _ (count : count_in r ≡ length r - 2) where
-      pub is_other : (version_in r ≡ version → ⊥) → checked_record version r ≡ Refused (because record_version_unknown)
-      unfolding checked_record
-      is_other h = rw (le-leb 3 (length r) long, eq-eqb (count_in r) (length r - 2) count, ne_eqb (version_in r) version h)
-
-      module _ (same : version_in r ≡ version) where
-        pub is_uneven : ((count_in r - 1) % 6 ≡ 0 → ⊥) → checked_record version r ≡ Refused (because record_touch_cut_short)
-        unfolding checked_record
-        is_uneven h = rw (le-leb 3 (length r) long, eq-eqb (count_in r) (length r - 2) count, eq-eqb (version_in r) version same, ne_eqb ((count_in r - 1) % 6) 0 h)
-
-        module _ (whole : (count_in r - 1) % 6 ≡ 0) where
-          pub is_touches : checked_record version r ≡ checked (touches_in r)
-          unfolding checked_record
-          is_touches = rw (le-leb 3 (length r) long, eq-eqb (count_in r) (length r - 2) count, eq-eqb (version_in r) version same, eq-eqb ((count_in r - 1) % 6) 0 whole)
-
-          length_touches_in : length (touches_in r) ≡ (count_in r - 1) / 6 * 3
-          length_touches_in = omega (arith, length_touches (drop 3 r), length-drop 3 r)
-
-          pub is_many : most_touches < (count_in r - 1) / 6 → checked_record version r ≡ Refused (because too_many_touches)
-          is_many h =
-              let n = length_touches_in in
-              let t : length (touches_in r) % 3 ≡ 0 = touches_whole (drop 3 r) in
-              let m : most_touches * 3 < length (touches_in r) = omega arith in
-              is_touches ∙ rw (eq-eqb (length (touches_in r) % 3) 0 t, lt-leb (length (touches_in r)) (most_touches * 3) m)
+  pub is_many : most_touches < (count_in r - 1) / 6 → checked_record version r ≡ Refused (because too_many_touches)
+  is_many h =
+      let n = length_touches_in in
+      let t : length (touches_in r) % 3 ≡ 0 = touches_whole (drop 3 r) in
+      let m : most_touches * 3 < length (touches_in r) = omega arith in
+      is_touches ∙ rw (eq-eqb (length (touches_in r) % 3) 0 t, lt-leb (length (touches_in r)) (most_touches * 3) m)
 
 -- what an accepted record has
 pub record Passes (version : ℕ) (r : List ℕ) (l : TouchList) : Type 0 where
@@ -74,7 +53,7 @@ passes version r {l} e = go (leb 3 (length r)) (eqb (count_in r) (length r - 2))
       whole = eqb-true ((count_in r - 1) % 6) 0 ed;
       touches = e;
     }
-    go true true true false ea eb ec ed e = absurd (never e)
-    go true true false d ea eb ec ed e = absurd (never e)
-    go true false c d ea eb ec ed e = absurd (never e)
-    go false b c d ea eb ec ed e = absurd (never e)
+    go true true true false ea eb ec ed e = cc
+    go true true false d ea eb ec ed e = cc
+    go true false c d ea eb ec ed e = cc
+    go false b c d ea eb ec ed e = cc

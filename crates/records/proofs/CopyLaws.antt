@@ -24,9 +24,6 @@ use Rattle.records.proofs.SoundLaws.{accepted_sound, accepted_threes}
 use Rattle.records.proofs.CheckLaws.{passes}
 use Rattle.records.proofs.RoundTrip.{both_copy}
 
-other : {n : ℕ} {x : Refusal} → Touches n ≡ ReadRefused x → ⊥
-other {n} {x} e = let z : ◌≡◌ {A = ℕ} 0 1 = cc in omega arith
-
 -- n touches were read
 pub record HasRead (version : ℕ) (r : List ℕ) (room n : ℕ) : Type 0 where
   pub accepted : checked_record version r ≡ Accepted (record { count = n })
@@ -42,15 +39,12 @@ has_read version r room n e = go (checked_record version r) refl e
         by true t e =
             let q : n ≡ l.count = cc in
             record { accepted = f ∙ ap (λ (k : ℕ). Accepted (record { count = k })) (sym q); enough = rw q (leb-true (l.count * 3) room t) }
-        by false t e = absurd (other e)
-    go (Refused x) f e = absurd (other e)
+        by false t e = cc
+    go (Refused x) f e = cc
 
 module _ {version : ℕ} {r : List ℕ} {list read : List ℤ} {a : ReadAnswer} (g : ReadGives version r list a read) where
   pub read_has : {n : ℕ} → a ≡ Touches n → HasRead version r (length list) n
   read_has {n} e = has_read version r (length list) n (sym e ∙ g.answer)
-
-  pub read_few : {n : ℕ} → a ≡ Touches n → n * 3 ≤ length list
-  read_few e = (read_has e).enough
 
   pub copy_gives : {n : ℕ} {old copied : List ℕ} {b : WriteAnswer} → AreBytes r → a ≡ Touches n → WriteGives version (take (n * 3) read) old b copied → CopyGives version r old b copied
   copy_gives {n} {old} {copied} {b} bytes e w =
@@ -66,5 +60,5 @@ module _ {version : ℕ} {r : List ℕ} {list read : List ℤ} {a : ReadAnswer} 
       go (Accepted l) f e =
           let p = (passes version r f).touches in
           let h : l.count * 3 ≤ length list = omega (arith, accepted_threes (touches_in r) p, (accepted_sound (touches_in r) p).few) in
-          absurd (other (sym (rw (le-leb (l.count * 3) (length list) h) at e)))
+          cc (rw (le-leb (l.count * 3) (length list) h) at e)
       go (Refused y) f e = cc

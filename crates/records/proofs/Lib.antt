@@ -2,7 +2,6 @@ pub mod WordLaws
 pub mod BodyLaws
 pub mod SoundLaws
 pub mod TableLaws
-pub mod MachineLaws
 pub mod CheckLaws
 pub mod ReadLaws
 pub mod RecordLaws

@@ -1,20 +1,16 @@
 -- What a list that passes refusals 1 to 3 has, by its count.
 use mathlib.Core.Path.{◌≡◌}
 use mathlib.Core.List.{List}
-use Prim.Native.Nat.{ℕ, ◌*◌, ◌≤◌}
+use Prim.Native.Nat.{◌*◌, ◌≤◌}
 use native.Mathlib.Omega.{arith}
 use lib.IntN.{ℤ}
 use lib.ListN.{length}
 use Rattle.touches.specs.Limits.{most_touches}
 use Rattle.touches.specs.Touches.{Sound, touch_count}
 use Rattle.touches.specs.Check.{checked}
-use Rattle.touches.specs.declared.Refusal.{Refusal}
 use Rattle.touches.specs.declared.TouchList.{TouchList}
-use Rattle.touches.specs.declared.Checked.TheVariants.{Accepted, Refused}
+use Rattle.touches.specs.declared.Checked.TheVariants.{Accepted}
 use Rattle.touches.proofs.SoundLaws.{accepted_sound as passed}
-
-pub never : {x : Refusal} {l : TouchList} → Refused x ≡ Accepted l → ⊥
-never {x} {l} e = let z : ◌≡◌ {A = ℕ} 0 1 = cc in omega arith
 
 module _ (cs : List ℤ) {l : TouchList} (e : checked cs ≡ Accepted l) where
   pub accepted_sound : Sound cs

@@ -1,24 +1,19 @@
--- Lists laid into a table, an element or two bytes a turn.
+-- A list copied into a part of a table.
 use mathlib.Core.Path.{◌≡◌}
-use mathlib.Core.List.{List, [], ◌∷◌, ◌++◌}
-use Prim.Native.Nat.{ℕ, suc, ◌+◌, ◌<◌, ◌≤◌}
-use native.Mathlib.Numerals.{add-one}
+use mathlib.Core.List.{List, ◌++◌, append_assoc}
+use Prim.Native.Nat.{ℕ, ◌+◌}
 use native.Mathlib.Omega.{arith}
-use lib.ListN.{length, take, get_or, set}
-use lib.Seq.{take-suc, take_all}
-use Rattle.laws.specs.Lists.{lay, Laid}
-use Rattle.laws.proofs.Tables.{laid_then, laid_one, laid_sets}
+use borrow.Rule.Slice.PartMut.{put_mid}
+use lib.ListN.{length, take, drop}
+use lib.Seq.{drop-drop}
+use Rattle.laws.specs.Lists.{lay}
 
--- the next element of l was stored after those before it
-pub laid_next : {A : Type 0} {old mid : List A} (l : List A) (i : ℕ) (d v : A) → i < length l → i < length mid → v ≡ get_or l i d
-    → Laid 0 (take i l) old i mid → Laid 0 (take (i + 1) l) old (i + 1) (set mid i v)
-laid_next l i d v h k e p =
-    let q : take (i + 1) l ≡ take i l ++ (v ∷ []) = rw (e, add-one, take-suc l i d) in
-    rw q (laid_then p (omega arith) (laid_one i v _ k))
+-- into the part that begins at `at` and is k long
+pub put_is : {A : Type 0} (at k : ℕ) (new old : List A) → length new ≡ k → put_mid at k old new ≡ lay at new old
+unfolding lay
+put_is at k new old h = rw (h, ← drop-drop k at old, append_assoc (take at old) new (drop k (drop at old)))
 
--- all of l was
-pub laid_all : {A : Type 0} {old after : List A} (l : List A) (i : ℕ) → length l ≤ i → Laid 0 (take i l) old i after → after ≡ lay 0 l old
-laid_all l i h p = rw (← take_all i l h) p.table
-
-pub laid_two : {A : Type 0} (at : ℕ) (a b : A) (old : List A) → at + 2 ≤ length old → Laid at (a ∷ b ∷ []) old (at + 2) (set (set old at a) (at + 1) b)
-laid_two at a b old h = let e : at + 1 ≡ suc at = omega arith in rw e (laid_sets at (a ∷ b ∷ []) old h)
+-- into the first k
+pub front_is : {A : Type 0} (k : ℕ) (new old : List A) → length new ≡ k → new ++ drop k old ≡ lay 0 new old
+unfolding lay
+front_is k new old h = let z : 0 + k ≡ k = omega arith in rw (h, z)

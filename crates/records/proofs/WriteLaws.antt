@@ -1,22 +1,20 @@
 -- A record's parts laid into a buffer one after another, and the writing call's promise.
-use mathlib.Core.Path.{◌≡◌, refl}
+use mathlib.Core.Path.{◌≡◌}
 use mathlib.Core.List.{List, [], ◌∷◌, ◌++◌}
 use Prim.Native.Nat.{ℕ, ◌+◌, ◌*◌, ◌/◌, ◌<◌, ◌≤◌}
 use native.Mathlib.Omega.{arith}
-use borrow.Author.Tests.{le-leb, lt-leb}
+use borrow.Author.Tests.{le-leb}
 use lib.IntN.{ℤ}
 use lib.ListN.{length, set}
 use Rattle.laws.specs.Lists.{Laid}
 use Rattle.laws.proofs.Tables.{laid_then, laid_one}
 use Rattle.touches.specs.Touches.{Sound}
-use Rattle.touches.specs.Refusals.{record_room_too_small, because}
 use Rattle.touches.specs.Check.{checked}
-use Rattle.touches.specs.declared.Refusal.{Refusal}
 use Rattle.touches.specs.declared.TouchList.{TouchList}
-use Rattle.touches.specs.declared.Checked.TheVariants.{Accepted, Refused}
+use Rattle.touches.specs.declared.Checked.TheVariants.{Accepted}
 use Rattle.records.specs.Record.{two_bytes, body_of, record_of}
 use Rattle.records.specs.Answers.{WriteGives}
-use Rattle.records.specs.declared.WriteAnswer.TheVariants.{Bytes, Refused as WriteRefused}
+use Rattle.records.specs.declared.WriteAnswer.TheVariants.{Bytes}
 use Rattle.records.proofs.SoundLaws.{accepted_sound, accepted_count}
 use Rattle.records.proofs.RecordLaws.{count_is, length_record}
 
@@ -37,9 +35,3 @@ module _ (version : ℕ) (cs : List ℤ) {l : TouchList} (e : checked cs ≡ Acc
   gives_bytes {old} {after} {n} h p =
       let k : n ≡ 3 + 6 * l.count = omega (arith, p.next, size_is) in
       record { answer = rw (e, le-leb (3 + 6 * l.count) (length old) h, k); table = p.table }
-
-  pub gives_12 : {old : List ℕ} → length old < 3 + 6 * l.count → WriteGives version cs old (WriteRefused (because record_room_too_small)) old
-  gives_12 {old} h = record { answer = rw (e, lt-leb (3 + 6 * l.count) (length old) h); table = refl }
-
-pub gives_refused : (version : ℕ) (cs : List ℤ) {x : Refusal} {old : List ℕ} → checked cs ≡ Refused x → WriteGives version cs old (WriteRefused x) old
-gives_refused version cs e = record { answer = rw e; table = refl }

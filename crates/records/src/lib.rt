@@ -42,14 +42,11 @@ pub fn read_numbers(a: ReadAnswer) -> Numbers
             place: TouchNo(0),
             count: n,
         },
-        ReadAnswer::Refused(x) => {
-            let place = x.place;
-            Numbers {
-                number: x.number,
-                place,
-                count: 0,
-            }
-        }
+        ReadAnswer::Refused(x) => Numbers {
+            number: x.number,
+            place: x.place,
+            count: 0,
+        },
     }
 }
 
@@ -62,14 +59,11 @@ pub fn write_numbers(a: WriteAnswer) -> Numbers
             place: TouchNo(0),
             count: n,
         },
-        WriteAnswer::Refused(x) => {
-            let place = x.place;
-            Numbers {
-                number: x.number,
-                place,
-                count: 0,
-            }
-        }
+        WriteAnswer::Refused(x) => Numbers {
+            number: x.number,
+            place: x.place,
+            count: 0,
+        },
     }
 }
 

@@ -1,5 +1,5 @@
 // From bytes to touches.
-ghost use Rattle.std.specs.Prelude.{◌≡◌, ◌*◌, ◌/◌, ◌≤◌, length};
+ghost use Rattle.std.specs.Prelude.{◌≡◌, ◌*◌, ◌/◌, ◌%◌, ◌≤◌, length};
 ghost use Rattle.laws.specs.Lists.{lay};
 ghost use Rattle.touches.specs.Limits.{most_touches};
 ghost use Rattle.touches.specs.Refusals.{because};
@@ -14,31 +14,23 @@ use touches::{Checked, Refusal, TouchList};
 fn of_two(high: u8, low: u8) -> usize
     ensures { result ≡ of_two high low }
 {
-    high as usize * 256 + low as usize
+    u16::from_be_bytes([high, low]) as usize
 }
 
 fn coordinate(high: u8, low: u8) -> i32
     ensures { result ≡ signed16 (of_two high low) }
 {
-    let n = high as u32 * 256 + low as u32;
-    if n < 32768 {
-        n as i32
-    } else {
-        let m = (65536 - n) as i32;
-        -m
-    }
+    i16::from_be_bytes([high, low]) as i32
 }
 
-// The coordinates of the body's whole touches, to the front of room.
+// The coordinates of a body of whole touches, to the front of room.
 fn unpack(room: &mut [i32], body: &[u8])
-    requires { length body.now / 6 * 3 ≤ length room.old }
+    requires whole { length body.now % 6 ≡ 0 }
+    requires room { length body.now / 2 ≤ length room.old }
     ensures { room.new ≡ lay 0 (touches_of body.now) room.old }
 {
-    let n = body.len() / 6 * 3;
-    let mut i: usize = 0;
-    while i < n {
-        room[i] = coordinate(body[i * 2], body[i * 2 + 1]);
-        i += 1;
+    for (i, pair) in body.chunks_exact(2).enumerate() {
+        room[i] = coordinate(pair[0], pair[1]);
     }
 }
 
@@ -49,6 +41,7 @@ fn refused(number: u8) -> Checked
 }
 
 // Refusals 8, 9, 10, 2 and 3 of a record; an accepted one's touches stand at the front of room.
+#[tactic(auto, using(crate::proofs::CheckLaws::is_many), unfolding(crate::specs::Answers::checked_record))]
 fn check_record(room: &mut [i32], bytes: &[u8], version: u8) -> Checked
     requires { length room.old ≡ most_touches * 3 }
     ensures { Opened version bytes.now result room.new }
@@ -74,17 +67,6 @@ fn check_record(room: &mut [i32], bytes: &[u8], version: u8) -> Checked
     touches::check(&room[..m])
 }
 
-fn lay_over(list: &mut [i32], new: &[i32])
-    requires { length new.now ≤ length list.old }
-    ensures { list.new ≡ lay 0 new.now list.old }
-{
-    let mut i: usize = 0;
-    while i < new.len() {
-        list[i] = new[i];
-        i += 1;
-    }
-}
-
 pub(crate) fn read_as(coords: &mut [i32], bytes: &[u8], version: u8) -> ReadAnswer
     ensures { ReadGives version bytes.now coords.old result coords.new }
 {
@@ -97,7 +79,7 @@ pub(crate) fn read_as(coords: &mut [i32], bytes: &[u8], version: u8) -> ReadAnsw
             if coords.len() < m {
                 return ReadAnswer::Refused(Refusal::because(Refusal::TOUCH_ROOM_TOO_SMALL));
             }
-            lay_over(coords, &room[..m]);
+            coords[..m].copy_from_slice(&room[..m]);
             ReadAnswer::Touches(n)
         }
     }

@@ -11,23 +11,18 @@ use crate::WriteAnswer;
 use touches::{Checked, Refusal};
 
 // The sixteen bits of a coordinate in range, as a number.
-fn bits_of(x: i32) -> usize
+fn bits_of(x: i32) -> u16
     requires { Within reach x }
     ensures { result ≡ bits16 x }
 {
-    if 0 <= x {
-        x as usize
-    } else {
-        (x + 65536) as usize
-    }
+    (x as i16).cast_unsigned()
 }
 
-fn put_two(buffer: &mut [u8], at: usize, n: usize) -> usize
+fn put_two(buffer: &mut [u8], at: usize, n: u16) -> usize
     requires { at + 2 ≤ length buffer.old }
     ensures { Laid at (two_bytes n) buffer.old result buffer.new }
 {
-    buffer[at] = (n / 256 % 256) as u8;
-    buffer[at + 1] = (n % 256) as u8;
+    buffer[at..at + 2].copy_from_slice(&n.to_be_bytes());
     at + 2
 }
 
@@ -36,10 +31,8 @@ fn put_body(buffer: &mut [u8], start: usize, coords: &[i32]) -> usize
     ensures { Laid start (body_of coords.now) buffer.old result buffer.new }
 {
     let mut at = start;
-    let mut i: usize = 0;
-    while i < coords.len() {
-        at = put_two(buffer, at, bits_of(coords[i]));
-        i += 1;
+    for x in coords {
+        at = put_two(buffer, at, bits_of(*x));
     }
     at
 }
@@ -48,7 +41,8 @@ fn put_record(buffer: &mut [u8], coords: &[i32], version: u8) -> usize
     requires { Sound coords.now × (3 + length coords.now * 2 ≤ length buffer.old) }
     ensures { Laid 0 (record_of version coords.now) buffer.old result buffer.new }
 {
-    let at = put_two(buffer, 0, 1 + coords.len() / 3 * 6);
+    let count = 1 + coords.len() / 3 * 6;
+    let at = put_two(buffer, 0, count as u16);
     buffer[at] = version;
     put_body(buffer, at + 1, coords)
 }
