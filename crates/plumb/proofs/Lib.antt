@@ -1,3 +1,4 @@
+pub mod EuclidLaws
 pub mod BoundsLaws
 pub mod PlumbedLaws
 pub mod OwnRoomLaws

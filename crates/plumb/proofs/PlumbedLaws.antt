@@ -1,12 +1,11 @@
 -- The plumb line's answer: a height of zero, what the bounds say, and the call's refusals.
 use mathlib.Core.Path.{◌≡◌, sym, ap, ◌∙◌}
-use mathlib.Core.Bool.{Bool, true, false, ◌&&◌, cond}
+use mathlib.Core.Bool.{Bool, true, false, ◌&&◌}
 use mathlib.Core.List.{List}
 use mathlib.Core.Option.{some}
 use lib.Dec.{lit≤}
 use lib.IntN.{ℤ, pos}
 use lib.Ieee.{binary64, div}
-use Rattle.laws.specs.Fractions.{compared}
 use Rattle.laws.proofs.Tests.{and_true}
 use Rattle.laws.proofs.WithinLaws.{within_more}
 use Rattle.laws.proofs.Doubles.{zero_quotient}
@@ -19,21 +18,15 @@ use Rattle.touches.specs.Refusals.{place_out_of_range, because}
 use Rattle.touches.specs.Check.{pick, if_accepted}
 use Rattle.touches.proofs.SoundLaws.{sound_accepted}
 use Rattle.rules.specs.Faces.{Face}
-use Rattle.rules.specs.Plumb.{Fraction as Ratio, Bounds as Limits, unbounded, bounds, misses, touches, through, between, met, reading_of, plumb}
+use Rattle.rules.specs.Plumb.{Fraction as Ratio, Bounds as Limits, unbounded, bounds, reading_of, plumb}
 use Rattle.rules.specs.Heights.{over}
-use Rattle.rules.proofs.PlumbTurns.{between_compared}
 use Rattle.hull.specs.Build.{hull_of}
-use Rattle.plumb.specs.Fractions.{Ranged, ratio}
-use Rattle.plumb.specs.Bounds.{bound_of, bounds_of}
+use Rattle.plumb.specs.Bounds.{bounds_of}
+use Rattle.plumb.specs.Ranged.{Ranged}
 use Rattle.plumb.specs.Plumb.{rounded, plumbed_by, plumbed_over, plumbed}
-use Rattle.plumb.specs.declared.fractions.Fraction.{Fraction}
-use Rattle.plumb.specs.declared.fractions.Order.{Order}
-use Rattle.plumb.specs.declared.fractions.Order.TheVariants.{Less, Equal, More}
-use Rattle.plumb.specs.declared.bounds.Bound.{Bound}
 use Rattle.plumb.specs.declared.bounds.Bounds.{Bounds}
 use Rattle.plumb.specs.declared.Plumbed.{Plumbed}
-use Rattle.plumb.specs.declared.Plumbed.TheVariants.{Misses, Refused}
-use Rattle.plumb.proofs.BoundsLaws.{by_order, decided}
+use Rattle.plumb.specs.declared.Plumbed.TheVariants.{Refused}
 
 -- ---- a height of zero is plus zero
 pub zero_height : (t : Ratio) → Ranged t → t.top ≡ pos 0 → rounded t ≡ double (pos 0)
@@ -42,17 +35,6 @@ zero_height t h e =
     ∙ zero_quotient binary64 t.bottom (within_more (lit≤ tt) h.fits.bottom).within h.proper.lt
 
 -- ---- the answer
-pub between_is : (u l : Fraction) {r v : Order} → r ≡ compared l.top l.bottom u.top u.bottom Less Equal More → r ≡ v
-    → plumbed_by (by_order (through (ratio u) (ratio l)) (touches (ratio u)) misses v) ≡ plumbed_by (between (ratio u) (ratio l))
-between_is u l e k = ap plumbed_by (decided l.top l.bottom u.top u.bottom (through (ratio u) (ratio l)) (touches (ratio u)) misses e k ∙ sym (between_compared (ratio u) (ratio l)))
-
-module _ (b : Bounds) where
-  pub refused_misses : b.admits ≡ false → Misses ≡ plumbed_by (reading_of (bounds_of b))
-  refused_misses e = ap (λ (a : Bool). plumbed_by (cond a (met (bound_of b.above) (bound_of b.below)) misses)) (sym e)
-
-  pub admitted_met : b.admits ≡ true → {r : Plumbed} {u l : Bound} → b.above ≡ u → b.below ≡ l → r ≡ plumbed_by (met (bound_of u) (bound_of l)) → r ≡ plumbed_by (reading_of (bounds_of b))
-  admitted_met e a c q = q ∙ sym (λ i. plumbed_by (cond (e i) (met (bound_of (a i)) (bound_of (c i))) misses))
-
 -- the line at x and y
 pub column : (x y : ℤ) → place_in_range (over x y (pos 0)) ≡ in_range x && in_range y
 unfolding in_range

@@ -1,3 +1,5 @@
+pub mod Ranged
 pub mod Fractions
+pub mod FractionOrder
 pub mod Bounds
 pub mod Plumb

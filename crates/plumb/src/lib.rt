@@ -9,13 +9,14 @@ ghost use Rattle.touches.specs.Limits.{most_touches};
 ghost use Rattle.rules.specs.Plumb.{between, reading_of};
 ghost use Rattle.cover.specs.Room.{enough};
 ghost use Rattle.table.specs.Table.{room};
-ghost use Rattle.plumb.specs.Fractions.{Ranged, ratio};
-ghost use Rattle.plumb.specs.Bounds.{bounds_of, RangedBounds};
+ghost use Rattle.plumb.specs.Fractions.{ratio};
+ghost use Rattle.plumb.specs.Bounds.{bounds_of};
 ghost use Rattle.plumb.specs.Plumb.{rounded, plumbed_by, plumbed};
 
-use crate::bounds::{Bound, Bounds, tightest};
-use crate::fractions::{Fraction, Order, compare};
+use crate::bounds::{Bounds, tightest};
+use crate::fractions::Fraction;
 use hull::build::Built;
+use std::cmp::Ordering;
 use touches::{Point, Refusal};
 
 // The line misses, touches at a height, or enters at the upper height and leaves at the lower one.
@@ -29,7 +30,6 @@ pub enum Plumbed {
 
 // Both numbers are held exactly and divided once. The bottom is above 0, so a zero is plus zero.
 fn height(f: Fraction) -> f64
-    requires { Ranged (ratio f) }
     ensures { result ≡ rounded (ratio f) }
 {
     f.top as f64 / f.bottom as f64
@@ -37,31 +37,21 @@ fn height(f: Fraction) -> f64
 
 // From the bound above to the bound below.
 fn between(u: Fraction, l: Fraction) -> Plumbed
-    requires { Ranged (ratio u) × Ranged (ratio l) }
     ensures { result ≡ plumbed_by (between (ratio u) (ratio l)) }
 {
-    match compare(l, u) {
-        Order::Less => Plumbed::Through(height(u), height(l)),
-        Order::Equal => Plumbed::Touches(height(u)),
-        Order::More => Plumbed::Misses,
+    match l.cmp(&u) {
+        Ordering::Less => Plumbed::Through(height(u), height(l)),
+        Ordering::Equal => Plumbed::Touches(height(u)),
+        Ordering::Greater => Plumbed::Misses,
     }
 }
 
 fn reading(b: Bounds) -> Plumbed
-    requires { RangedBounds b }
     ensures { result ≡ plumbed_by (reading_of (bounds_of b)) }
 {
-    let above = b.above;
-    let below = b.below;
-    if !b.admits {
-        return Plumbed::Misses;
-    }
-    match above {
-        Bound::Nowhere => Plumbed::Misses,
-        Bound::At(u) => match below {
-            Bound::Nowhere => Plumbed::Misses,
-            Bound::At(l) => between(u, l),
-        },
+    match (b.admits, b.above, b.below) {
+        (true, Some(u), Some(l)) => between(u, l),
+        _ => Plumbed::Misses,
     }
 }
 

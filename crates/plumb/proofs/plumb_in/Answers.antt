@@ -51,5 +51,5 @@ returns-else-not-place_in_range c =
     let f = own_filled cs a.faces.now c.in-Hull.ensures.answer c.in-Hull.ensures.table refl in
     let t = c.tightest in
     over_read cs a.x a.y f.is (tested c.ranges.x c.ranges.y c.if-not-place_in_range.ensures)
-    (hull_read cs a.x a.y t.result c.reading.ensures t.ensures.is (to_z-of_z w64 a.x c.ranges.x) (to_z-of_z w64 a.y c.ranges.y) (ap faces_in (part f c.numbers_of-end.ensures) ∙ hull_back f.sound f.is))
+    (hull_read cs a.x a.y t.result c.reading.ensures t.ensures (to_z-of_z w64 a.x c.ranges.x) (to_z-of_z w64 a.y c.ranges.y) (ap faces_in (part f c.numbers_of-end.ensures) ∙ hull_back f.sound f.is))
     ∙ sym (sound_plumbed cs a.x a.y f.sound)
