@@ -2,7 +2,7 @@
 use mathlib.Core.Path.{◌≡◌, refl, sym, ap, ◌∙◌}
 use mathlib.Core.List.{List, ◌++◌}
 use mathlib.Core.Option.{Option, none, some}
-use Prim.Native.Nat.{ℕ, ◌≤◌}
+use Prim.Native.Nat.{ℕ}
 use native.Mathlib.Omega.{arith}
 use lib.IntN.{ℤ}
 use lib.ListN.{take}
@@ -24,7 +24,7 @@ use Rattle.hull.specs.declared.build.Built.TheVariants.{Hull, Refused}
 use Rattle.hull.proofs.BuildLaws.{room_enough}
 use Rattle.hull.proofs.Inversion.{Inverted, inverted}
 use Rattle.lister.specs.Listing.{refused_line, hull_line, face_lines, answer, faces_of, built_text, hull_text}
-use Rattle.lister.proofs.FaceLaws.{room_after, lines_after}
+use Rattle.lister.proofs.FaceLaws.{lines_after}
 
 -- what the building call promises of a table with room for every hull
 pub record Asked (cs : List ℤ) (a : Built) (after : List ℕ) : Type 0 where
@@ -63,14 +63,8 @@ module _ {cs : List ℤ} {a : Built} {after : List ℕ} (k : Asked cs a after) w
     i : Inverted cs k.old n v faces
     i = (inverted cs k.old (sym k.answer ∙ f)).1
 
-    pub hull_few : n ≤ enough most_touches
-    hull_few = omega (arith, i.count, i.fits, k.wide)
-
     after_is : after ≡ lay 0 (lent faces) k.old
     after_is = k.table ∙ ap (λ (b : Built). table_after b (hull_of cs) k.old) k.answer ∙ i.table
-
-    pub hull_room : n ≤ room after
-    hull_room = room_after faces k.old i.count after_is
 
     lines : face_lines (take n (faces_in after)) ≡ face_lines (faces_of (hull_of cs))
     lines = lines_after faces k.old i.count after_is ∙ ap (λ (o : Option (List Face)). face_lines (faces_of o)) (sym i.is)

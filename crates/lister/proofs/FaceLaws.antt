@@ -11,7 +11,7 @@ use Rattle.laws.proofs.Tables.{laid_then}
 use Rattle.rules.specs.Faces.{Face}
 use Rattle.table.specs.Table.{room, numbers, lent, face_at, faces_in}
 use Rattle.table.proofs.TableLaws.{length_faces, face_at_lem}
-use Rattle.table.proofs.LentLaws.{room_laid, faces_laid}
+use Rattle.table.proofs.LentLaws.{faces_laid}
 use Rattle.lister.specs.Listing.{face_line, face_lines}
 
 lines_append : (g h : List Face) → face_lines (g ++ h) ≡ face_lines g ++ face_lines h
@@ -45,8 +45,5 @@ lines_numbers [] = refl
 lines_numbers (f ∷ h) = ap (λ (t : List ℕ). face_line f ++ t) (lines_numbers h)
 
 module _ (h : List Face) (old : List ℕ) {n : ℕ} {after : List ℕ} (count : n ≡ length h) (is : after ≡ lay 0 (lent h) old) where
-  pub room_after : n ≤ room after
-  room_after = rw (count, is) (room_laid h old)
-
   pub lines_after : face_lines (take n (faces_in after)) ≡ face_lines h
   lines_after = rw (count, is) (ap face_lines (faces_laid h old) ∙ lines_numbers h)

@@ -3,3 +3,4 @@ pub mod FaceLaws
 pub mod BuiltLaws
 pub mod ListingLaws
 pub mod PaperListing
+pub mod InputLaws

@@ -2,7 +2,6 @@
 use mathlib.Core.Path.{◌≡◌, sym, ap, ◌∙◌}
 use mathlib.Core.List.{List}
 use Prim.Native.Nat.{ℕ, ◌*◌, ◌<◌, ◌≤◌}
-use native.Mathlib.Omega.{arith}
 use borrow.Author.Tests.{le-leb, lt-leb}
 use lib.IntN.{ℤ}
 use lib.ListN.{length, take}
@@ -37,8 +36,5 @@ module _ {r : List ℕ} {a : ReadAnswer} {read : List ℤ} (k : Asked r a read) 
   refused_text f = text_of f
 
   module _ {n : ℕ} (f : a ≡ Touches n) where
-    pub touches_few : n * 3 ≤ most_touches * 3
-    touches_few = omega (arith, (read_has k.gives f).enough, k.wide)
-
     pub touches_text : listing r ≡ hull_text (take (n * 3) read)
     touches_text = let h = read_has k.gives f in text_of f ∙ ap hull_text (sym (read_front h.accepted h.enough k.gives))

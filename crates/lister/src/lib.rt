@@ -10,7 +10,10 @@ ghost use Rattle.text.specs.Room.{Put, Front};
 ghost use Rattle.lister.specs.Listing.{hull_line, refused_line, face_line, face_lines, hull_text, listing};
 ghost use Rattle.lister.specs.Room.{field_room, volume_room, face_room, first_room, listing_room};
 
+mod input;
+
 use hull::build::Built;
+pub use input::list_input;
 use records::ReadAnswer;
 use touches::{FaceNo, Refusal, TouchList, TouchNo};
 
@@ -38,6 +41,7 @@ fn put_field(out: &mut [u8], at: usize, n: u16, after: u8) -> usize
     next + 1
 }
 
+// Apart from `put_field`: a 64-bit number needs more room than a face's line has for one.
 fn put_volume(out: &mut [u8], at: usize, v: i64) -> usize
     requires { at + volume_room ≤ length out.old }
     ensures laid { Laid at (whole v ++ (newline ∷ [])) out.old result out.new }
@@ -78,16 +82,14 @@ fn put_face(out: &mut [u8], at: usize, f: [TouchNo; 3]) -> usize
     put_field(out, b, f[2].0, b'\n')
 }
 
-// A line for each of the first n faces.
+// A line for each of the first n faces. The table comes whole, since `table` alone knows how many numbers a face takes.
 fn put_faces(out: &mut [u8], start: usize, faces: &[u16], n: u16) -> usize
     requires { (n ≤ room faces.now) × (start + n * face_room ≤ length out.old) }
     ensures { Laid start (face_lines (take n (faces_in faces.now))) out.old result out.new }
 {
     let mut at = start;
-    let mut i: u16 = 0;
-    while i < n {
+    for i in 0..n {
         at = put_face(out, at, table::face(faces, FaceNo(i)));
-        i += 1;
     }
     at
 }

@@ -1,8 +1,0 @@
-use Rattle.text.proofs.SpellLaws.{Spelling}
-use Rattle.text.proofs.spell.Given as goal
-
-abbrev pub invariant-loop-rest : goal.invariant-loop-rest
-invariant-loop-rest l = Spelling l.n l.at l.rest l.out
-
-abbrev pub decreases-loop-rest : goal.decreases-loop-rest
-decreases-loop-rest l = l.rest
