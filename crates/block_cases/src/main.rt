@@ -1,10 +1,9 @@
 // Builds small blocks into lent tables of several rooms and places places against them, one line a case; `stdout` beside src/ is what they must be.
 #![tactic(auto)]
 
-use hull::build::Built;
 use hull::place::Placed;
 use std::io;
-use touches::{Point, Refusal, TouchList};
+use touches::{Point, TouchList};
 
 const R: i32 = 30000;
 
@@ -37,71 +36,25 @@ const TWICE: [u16; 9] = [1, 0, 2, 2, 3, 1, 2, 3, 1];
 
 const MISSING: [u16; 12] = [1, 0, 2, 1, 3, 0, 0, 3, 2, 2, 3, 4];
 
-fn say(rt: &impl Print, text: &str) -> io::Result<()> {
-    rt.print(text)
-}
-
-fn wide8(x: u8) -> u64 {
-    x as u64
-}
-
-fn wide16(x: u16) -> u64 {
-    x as u64
-}
-
-fn field(rt: &impl Print, n: u64) -> io::Result<()> {
-    print!(rt; " {n}")
-}
-
-fn signed(rt: &impl Print, v: i64) -> io::Result<()> {
-    if v < 0 {
-        return say(rt, " negative");
-    }
-    field(rt, v as u64)
-}
-
-fn refused(rt: &impl Print, r: Refusal) -> io::Result<()> {
-    say(rt, "refused")?;
-    field(rt, wide8(r.number))?;
-    field(rt, wide16(r.place.0))
-}
-
-fn table(rt: &impl Print, faces: &[u16]) -> io::Result<()> {
-    for face in faces {
-        field(rt, wide16(*face))?;
-    }
-    say(rt, "\n")
-}
-
 // The answer, and all of the lent table after it.
 fn build(rt: &impl Print, coords: &[i32], faces: &mut [u16]) -> io::Result<()> {
     match hull::build::build(coords, faces) {
-        Built::Refused(r) => refused(rt, r)?,
-        Built::Hull(n, v) => {
-            say(rt, "hull")?;
-            field(rt, wide16(n))?;
-            signed(rt, v)?;
-        }
+        Ok(hull) => print!(rt; "hull {} {} |", hull.faces, hull.volume)?,
+        Err(r) => print!(rt; "{r} |")?,
     }
-    say(rt, " |")?;
-    table(rt, faces)
+    for n in faces.iter() {
+        print!(rt; " {n}")?;
+    }
+    println!(rt; "")
 }
 
 fn place(rt: &impl Print, coords: &[i32], faces: &[u16], x: i64, y: i64, z: i64) -> io::Result<()> {
     match hull::place::place(coords, faces, Point { x, y, z }) {
-        Placed::Refused(r) => refused(rt, r)?,
-        Placed::Inside => say(rt, "inside")?,
-        Placed::On(f) => {
-            say(rt, "on")?;
-            field(rt, wide16(f.0))?;
-        }
-        Placed::Outside(f, d) => {
-            say(rt, "outside")?;
-            field(rt, wide16(f.0))?;
-            signed(rt, d)?;
-        }
+        Ok(Placed::Inside) => println!(rt; "inside"),
+        Ok(Placed::On(f)) => println!(rt; "on {}", f.0),
+        Ok(Placed::Outside(f, d)) => println!(rt; "outside {} {d}", f.0),
+        Err(r) => println!(rt; "{r}"),
     }
-    say(rt, "\n")
 }
 
 // Room 3 and 4, odd numbers at the end, more room than needed.

@@ -1,10 +1,9 @@
 // Works out planes, plane readings and plumb lines of small blocks, one line a case; `stdout` beside src/ is what they must be.
 #![tactic(auto)]
 
-use planes::{Planed, Reading};
 use plumb::Plumbed;
-use std::io;
-use touches::{Point, Refusal, TouchList, TouchNo};
+use std::{fmt, io};
+use touches::{Point, TouchList, TouchNo};
 
 // T of document 01, the block at 512, a line of three touches with one beside it.
 const T: [i32; 12] = [0, 0, 0, 10, 0, 0, 0, 10, 0, 0, 0, 10];
@@ -36,102 +35,54 @@ const THIN: [i32; 12] = [
     -R, -R, 29949, R, 29998, 29903, -R, 29998, 29811, -29997, R, 29811,
 ];
 
-fn say(rt: &impl Print, text: &str) -> io::Result<()> {
-    rt.print(text)
-}
-
-fn wide8(x: u8) -> u64 {
-    x as u64
-}
-
-fn wide16(x: u16) -> u64 {
-    x as u64
-}
-
-fn digits(rt: &impl Print, x: f64) -> io::Result<()> {
-    if x > -1.0 {
-        if x < 18446744073709551616.0 {
-            return print!(rt; "{}", std::num::truncating_f64_to_u64(x));
-        }
-    }
-    say(rt, "no whole number")
-}
-
 // A double that holds a whole number; minus zero shows its sign.
-fn whole(rt: &impl Print, x: f64) -> io::Result<()> {
-    if (x < 0.0) | (1.0 / x < 0.0) {
-        say(rt, " -")?;
-        digits(rt, -x)
-    } else {
-        say(rt, " ")?;
-        digits(rt, x)
-    }
-}
+struct Whole(f64);
 
-fn refused(rt: &impl Print, r: Refusal) -> io::Result<()> {
-    println!(rt; "refused {} {}", wide8(r.number), wide16(r.place.0))
-}
-
-fn plane(rt: &impl Print, coords: &[i32], a: u16, b: u16, c: u16) -> io::Result<()> {
-    match planes::plane_of(coords, TouchNo(a), TouchNo(b), TouchNo(c)) {
-        Planed::Refused(r) => refused(rt, r),
-        Planed::Of(p) => {
-            say(rt, "plane")?;
-            whole(rt, p.x)?;
-            whole(rt, p.y)?;
-            whole(rt, p.z)?;
-            whole(rt, p.offset)?;
-            say(rt, "\n")
+impl fmt::Display for Whole {
+    fn fmt<W: fmt::Write>(&self, f: &mut fmt::Formatter<W>) -> fmt::Result {
+        let x = self.0;
+        let size = x.abs();
+        if x.is_sign_negative() {
+            f.write_str("-")?;
         }
-    }
-}
-
-fn reading(
-    rt: &impl Print,
-    coords: &[i32],
-    a: u16,
-    b: u16,
-    c: u16,
-    x: i64,
-    y: i64,
-    z: i64,
-) -> io::Result<()> {
-    match planes::plane_reading(
-        coords,
-        TouchNo(a),
-        TouchNo(b),
-        TouchNo(c),
-        Point { x, y, z },
-    ) {
-        Reading::Refused(r) => refused(rt, r),
-        Reading::Of(v) => {
-            say(rt, "reads")?;
-            whole(rt, v)?;
-            say(rt, "\n")
+        if size < 18446744073709551616.0 {
+            write!(f, "{}", std::num::truncating_f64_to_u64(size))
+        } else {
+            f.write_str("no whole number")
         }
     }
 }
 
 // A height in millionths, cut to a whole number.
-fn height(rt: &impl Print, z: f64) -> io::Result<()> {
-    whole(rt, z * 1000000.0)
+fn height(z: f64) -> Whole {
+    Whole(z * 1000000.0)
+}
+
+fn plane(rt: &impl Print, coords: &[i32], a: u16, b: u16, c: u16) -> io::Result<()> {
+    match planes::plane_of(coords, TouchNo(a), TouchNo(b), TouchNo(c)) {
+        Ok(p) => println!(rt; "plane {} {} {} {}", Whole(p.x), Whole(p.y), Whole(p.z), Whole(p.offset)),
+        Err(r) => println!(rt; "{r}"),
+    }
+}
+
+fn at(x: i64, y: i64, z: i64) -> Point {
+    Point { x, y, z }
+}
+
+fn reading(rt: &impl Print, coords: &[i32], face: [u16; 3], q: Point) -> io::Result<()> {
+    let [a, b, c] = face.map(TouchNo);
+    match planes::plane_reading(coords, a, b, c, q) {
+        Ok(v) => println!(rt; "reads {}", Whole(v)),
+        Err(r) => println!(rt; "{r}"),
+    }
 }
 
 fn line(rt: &impl Print, coords: &[i32], x: i64, y: i64) -> io::Result<()> {
     match plumb::plumb(coords, x, y) {
-        Plumbed::Refused(r) => refused(rt, r),
-        Plumbed::Misses => say(rt, "misses\n"),
-        Plumbed::Touches(z) => {
-            say(rt, "touches")?;
-            height(rt, z)?;
-            say(rt, "\n")
-        }
-        Plumbed::Through(u, l) => {
-            say(rt, "through")?;
-            height(rt, u)?;
-            height(rt, l)?;
-            say(rt, "\n")
-        }
+        Ok(Plumbed::Misses) => println!(rt; "misses"),
+        Ok(Plumbed::Touches(z)) => println!(rt; "touches {}", height(z)),
+        Ok(Plumbed::Through(u, l)) => println!(rt; "through {} {}", height(u), height(l)),
+        Err(r) => println!(rt; "{r}"),
     }
 }
 
@@ -141,21 +92,21 @@ fn block_t(rt: &impl Print) -> io::Result<()> {
     plane(rt, &T, 1, 3, 0)?;
     plane(rt, &T, 0, 3, 2)?;
     plane(rt, &T, 2, 3, 1)?;
-    reading(rt, &T, 2, 3, 1, 1, 1, 1)?;
-    reading(rt, &T, 2, 3, 1, 2, 3, 5)?;
-    reading(rt, &T, 2, 3, 1, 10, 10, 10)?;
+    reading(rt, &T, [2, 3, 1], at(1, 1, 1))?;
+    reading(rt, &T, [2, 3, 1], at(2, 3, 5))?;
+    reading(rt, &T, [2, 3, 1], at(10, 10, 10))?;
     // the steps make minus zero here, the answer is plus zero
-    reading(rt, &T, 1, 0, 2, -5, -5, 0)
+    reading(rt, &T, [1, 0, 2], at(-5, -5, 0))
 }
 
 // V too large for 32 bits, and coordinates at the limit.
 fn large_blocks(rt: &impl Print) -> io::Result<()> {
     plane(rt, &WIDE, 0, 1, 2)?;
-    reading(rt, &WIDE, 0, 1, 2, -512, -512, 512)?;
+    reading(rt, &WIDE, [0, 1, 2], at(-512, -512, 512))?;
     plane(rt, &EDGE, 0, 1, 2)?;
-    reading(rt, &EDGE, 0, 1, 2, 30000, 30000, 30000)?;
+    reading(rt, &EDGE, [0, 1, 2], at(30000, 30000, 30000))?;
     plane(rt, &EDGE, 1, 2, 3)?;
-    reading(rt, &EDGE, 1, 2, 3, -30000, -30000, -30000)
+    reading(rt, &EDGE, [1, 2, 3], at(-30000, -30000, -30000))
 }
 
 // Refusals 1, 2, 3, 6, each alone and before the next in the order.
@@ -181,14 +132,14 @@ fn plane_refusals(rt: &impl Print) -> io::Result<()> {
 
 // The same of a reading, and 7 last.
 fn reading_refusals(rt: &impl Print) -> io::Result<()> {
-    reading(rt, &T[..10], 1, 0, 2, 0, 0, 30001)?;
-    reading(rt, &FAR, 9, 9, 9, 0, 0, 30001)?;
-    reading(rt, &LINE, 0, 1, 2, 0, 0, 30001)?;
-    reading(rt, &T, 1, 0, 4, 30001, 0, 0)?;
-    reading(rt, &T, 1, 0, 2, 30001, 0, 0)?;
-    reading(rt, &T, 1, 0, 2, 0, -30001, 0)?;
-    reading(rt, &T, 1, 0, 2, 0, 0, 9223372036854775807)?;
-    reading(rt, &T, 1, 0, 2, -30000, 30000, -30000)
+    reading(rt, &T[..10], [1, 0, 2], at(0, 0, 30001))?;
+    reading(rt, &FAR, [9, 9, 9], at(0, 0, 30001))?;
+    reading(rt, &LINE, [0, 1, 2], at(0, 0, 30001))?;
+    reading(rt, &T, [1, 0, 4], at(30001, 0, 0))?;
+    reading(rt, &T, [1, 0, 2], at(30001, 0, 0))?;
+    reading(rt, &T, [1, 0, 2], at(0, -30001, 0))?;
+    reading(rt, &T, [1, 0, 2], at(0, 0, 9223372036854775807))?;
+    reading(rt, &T, [1, 0, 2], at(-30000, 30000, -30000))
 }
 
 // Through T, down its upright edge and side, at a corner and at an edge; past it, and in front of an upright side.
