@@ -17,7 +17,7 @@ use touches::TouchNo;
 
 // Face f at the free place at, if it is wanted: the next free place.
 #[tactic(auto, using(laws::proofs::Tables::laid_one, laws::proofs::Tables::laid_none))]
-pub fn put(table: &mut [[u16; 3]], at: usize, f: [u16; 3], wanted: bool) -> usize
+pub(crate) fn put(table: &mut [[u16; 3]], at: usize, f: [u16; 3], wanted: bool) -> usize
     requires { at + length (only_if wanted f) ≤ length table.old }
     ensures { Laid at (only_if wanted f) table.old result table.new }
 {

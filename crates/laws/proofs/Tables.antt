@@ -95,13 +95,6 @@ pub laid_sets : {A : Type 0} (at : ℕ) (new old : List A) → at + length new �
 unfolding lay
 laid_sets at new old h = record { next = refl; table = sets-eq new old at h }
 
-pub laid_three : {A : Type 0} (at : ℕ) (a b c : A) (old : List A) → at + 3 ≤ length old
-    → Laid at (a ∷ b ∷ c ∷ []) old (at + 3) (set (set (set old at a) (at + 1) b) (at + 2) c)
-laid_three at a b c old h =
-    let e : at + 1 ≡ suc at = omega arith in
-    let g : at + 2 ≡ suc (suc at) = omega arith in
-    rw (e, g) (laid_sets at (a ∷ b ∷ c ∷ []) old h)
-
 module _ {A : Type 0} {r : ℕ} {new old after : List A} (h : Laid 0 new old r after) where
   pub laid_past : (i : ℕ) (d : A) → r ≤ i → get_or after i d ≡ get_or old i d
   laid_past i d b = rw h.table (lay_past new old i d (omega (arith, h.next)))

@@ -63,13 +63,6 @@ abs_rem : (x y : ℤ) → nat_abs (rem_z x y) ≤ nat_abs x
 abs_rem (pos a) y = mod-le a (nat_abs y)
 abs_rem (negsuc a) y = omega (arith, abs_neg (pos (suc a % nat_abs y)), mod-le (suc a) (nat_abs y))
 
-module _ {A : ℕ} {x : ℤ} (y : ℤ) (h : Within A x) where
-  pub within_quot : Within A (quot_z x y)
-  within_quot = record { within = le_trans (abs_quot x y) h.within }
-
-  pub within_rem : Within A (rem_z x y)
-  within_rem = record { within = le_trans (abs_rem x y) h.within }
-
 -- a signed width holds what is below half its power
 pub within_fits : (w : Width) {A : ℕ} {x : ℤ} → A < 2 ^ hbits w → Within A x → SFits w x
 within_fits w {A} {x} l h = record { sfits = omega (arith, mag_abs x, h.within) }

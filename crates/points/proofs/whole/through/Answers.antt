@@ -1,5 +1,4 @@
 use mathlib.Core.Path.{ap₂, ◌∙◌}
-use Rattle.touches.specs.declared.Point.{Point}
 use Rattle.volume.specs.Volume.{dot, offset}
 use Rattle.points.proofs.NumberLaws.{back}
 use Rattle.points.proofs.whole.through.Goals as goal
