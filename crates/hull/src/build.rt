@@ -9,7 +9,7 @@ ghost use Rattle.hull.specs.Inner.{Ready, Builds};
 ghost use Rattle.hull.specs.Build.{hull_of, built, table_after};
 
 use crate::rooms::build_from;
-use crate::start::{Started, find_start};
+use crate::start::find_start;
 use crate::whole::read;
 use points::touch::touch;
 use touches::{Checked, Refusal, TouchNo};
@@ -59,8 +59,8 @@ fn build_checked(faces: &mut [u16], coords: &[i32], n: usize) -> Built
     ensures { Builds coords.now (hull_of coords.now) faces.old result faces.new }
 {
     match find_start(coords, n) {
-        Started::Flat => Built::Refused(Refusal::because(Refusal::ALL_TOUCHES_ON_ONE_PLANE)),
-        Started::From(s) => build_from(faces, coords, s),
+        None => Built::Refused(Refusal::because(Refusal::ALL_TOUCHES_ON_ONE_PLANE)),
+        Some(s) => build_from(faces, coords, s),
     }
 }
 

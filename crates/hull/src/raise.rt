@@ -4,7 +4,7 @@ ghost use Rattle.border.specs.Marks.{Fresh};
 ghost use Rattle.hull.specs.Start.{start_of};
 ghost use Rattle.hull.specs.Inner.{Begun, Taken, Tables};
 
-use crate::start::{Start, next_other, put_start};
+use crate::start::{Start, put_start};
 use crate::step::step;
 use crate::whole::put_planes;
 use touches::TouchNo;
@@ -26,10 +26,11 @@ pub(crate) fn raise(
     let n = coords.len() / 3;
     let mut m = put_start(table, coords, s);
     put_planes(planes, table, coords, 0, m);
-    let mut k = next_other(s, 1);
-    while k < n {
-        m = step(table, planes, seen, marks, coords, m, TouchNo(k as u16));
-        k = next_other(s, k + 1);
+    for k in 0..n as u16 {
+        if s.has(TouchNo(k)) {
+            continue;
+        }
+        m = step(table, planes, seen, marks, coords, m, TouchNo(k));
     }
     m
 }
