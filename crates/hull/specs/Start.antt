@@ -6,21 +6,17 @@ use Rattle.touches.specs.Touches.{touch_no}
 use Rattle.volume.specs.Volume.{Vol, in_line, is_zero}
 use Rattle.rules.specs.Faces.{Places}
 use Rattle.rules.specs.Start.{same_place, Start as Four}
-use Rattle.hull.specs.declared.start.Sought.{Sought}
-use Rattle.hull.specs.declared.start.Sought.TheVariants.{Apart, OffLine, OffPlane}
 use Rattle.hull.specs.declared.start.Start.{Start}
 
--- the test of the rule for Q, R and S, P being touch 0
-abbrev pub suits : Places → Sought → ℕ → Bool
-suits p Apart k = not (same_place (p 0) (p k))
-suits p (OffLine q) k = not (in_line (p 0) (p q.0) (p k))
-suits p (OffPlane q r) k = not (is_zero (Vol (p 0) (p q.0) (p r.0) (p k)))
+-- the tests of the rule for Q, R and S, P being touch 0
+abbrev pub is_apart : Places → ℕ → Bool
+is_apart p k = not (same_place (p 0) (p k))
 
--- what is looked for names only touches below n
-abbrev pub Known : ℕ → Sought → Type 0
-Known n Apart = Unit {0}
-Known n (OffLine q) = q.0 < n
-Known n (OffPlane q r) = (q.0 < n) × (r.0 < n)
+abbrev pub is_off_line : Places → ℕ → ℕ → Bool
+is_off_line p q k = not (in_line (p 0) (p q) (p k))
+
+abbrev pub is_off_plane : Places → ℕ → ℕ → ℕ → Bool
+is_off_plane p q r k = not (is_zero (Vol (p 0) (p q) (p r) (p k)))
 
 -- the rule's answer as the code holds it
 abbrev pub found_of : Maybe ℕ → Option TouchNo

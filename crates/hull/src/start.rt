@@ -1,9 +1,9 @@
 // The start: P, Q, R and S, and the four faces over A, B, C and D.
 ghost use Rattle.std.specs.Prelude.{◌≡◌, [], ◌<◌, ◌≤◌, length, get_or};
 ghost use Rattle.laws.specs.Lists.{first, upward, Laid};
-ghost use Rattle.touches.specs.Touches.{touch, touch_count, Sound};
+ghost use Rattle.touches.specs.Touches.{touch, touch_count, Near, Sound};
 ghost use Rattle.rules.specs.Start.{same_place, start, corners, start_faces, is_start};
-ghost use Rattle.hull.specs.Start.{suits, Known, found_of, start_of, started_of, KnownStart};
+ghost use Rattle.hull.specs.Start.{is_apart, is_off_line, is_off_plane, found_of, start_of, started_of, KnownStart};
 
 use crate::four_corner::volume;
 use points::touch::touch;
@@ -12,14 +12,6 @@ use touches::{Point, TouchNo};
 
 // The starting faces, by place among A, B, C, D.
 const START: [[usize; 3]; 4] = [[0, 1, 2], [0, 3, 1], [1, 3, 2], [2, 3, 0]];
-
-// What is looked for: a touch apart from P, off the line of P and Q, or off the plane of P, Q and R.
-#[derive(Clone, Copy)]
-enum Sought {
-    Apart,
-    OffLine(TouchNo),
-    OffPlane(TouchNo, TouchNo),
-}
 
 #[derive(Clone, Copy)]
 pub(crate) struct Start {
@@ -43,27 +35,43 @@ fn same_place(p: Point, q: Point) -> bool
     (p.x == q.x) & ((p.y == q.y) & (p.z == q.z))
 }
 
-fn is_suited(coords: &[i32], what: Sought, k: TouchNo) -> bool
-    requires { Sound coords.now × Known (touch_count coords.now) what × (k.0 < touch_count coords.now) }
-    ensures { result ≡ suits (touch coords.now) what k.0 }
-{
-    let p = touch(coords, TouchNo(0));
-    let t = touch(coords, k);
-    match what {
-        Sought::Apart => !same_place(p, t),
-        Sought::OffLine(q) => !in_line(p, touch(coords, q), t),
-        Sought::OffPlane(q, r) => volume(p, touch(coords, q), touch(coords, r), t) != 0,
-    }
-}
-
-// The first of the n touches that is suited.
-fn first_suited(coords: &[i32], n: usize, what: Sought) -> Option<TouchNo>
-    requires { Sound coords.now × (n ≡ touch_count coords.now) × Known n what }
-    ensures { result ≡ found_of (first (suits (touch coords.now) what) (upward 0 n)) }
+// Q: the first touch apart from P.
+fn find_q(coords: &[i32], n: usize) -> Option<TouchNo>
+    requires { Sound coords.now × (n ≡ touch_count coords.now) }
+    ensures { result ≡ found_of (first (is_apart (touch coords.now)) (upward 0 n)) }
 {
     (0..n as u16)
         .map(TouchNo)
-        .find(|k| is_suited(coords, what, *k))
+        .find(|k| !same_place(touch(coords, TouchNo(0)), touch(coords, *k)))
+}
+
+// R: the first touch off the line of P and Q.
+fn find_r(coords: &[i32], n: usize, q: TouchNo) -> Option<TouchNo>
+    requires { Sound coords.now × (n ≡ touch_count coords.now) × (q.0 < n) }
+    ensures { result ≡ found_of (first (is_off_line (touch coords.now) q.0) (upward 0 n)) }
+{
+    let p = touch(coords, TouchNo(0));
+    let q = touch(coords, q);
+    (0..n as u16)
+        .map(TouchNo)
+        .find(|k| !in_line(p, q, touch(coords, *k)))
+}
+
+// S: the first touch off the plane of P, Q and R.
+fn find_s(coords: &[i32], n: usize, q: TouchNo, r: TouchNo) -> Option<TouchNo>
+    requires { Sound coords.now × (n ≡ touch_count coords.now) × (q.0 < n) × (r.0 < n) }
+    ensures { result ≡ found_of (first (is_off_plane (touch coords.now) q.0 r.0) (upward 0 n)) }
+{
+    let p = touch(coords, TouchNo(0));
+    let q = touch(coords, q);
+    let r = touch(coords, r);
+    (0..n as u16)
+        .map(TouchNo)
+        .find(
+            |k|
+                requires { Sound coords.now × (k.now.0 < touch_count coords.now) × Near p × Near q × Near r }
+            { volume(p, q, r, touch(coords, *k)) != 0 },
+        )
 }
 
 // P, Q, R and S, or none where the touches are flat.
@@ -71,9 +79,9 @@ pub(crate) fn find_start(coords: &[i32], n: usize) -> Option<Start>
     requires { Sound coords.now × (n ≡ touch_count coords.now) }
     ensures { result ≡ started_of (start (touch coords.now) n) }
 {
-    let q = first_suited(coords, n, Sought::Apart)?;
-    let r = first_suited(coords, n, Sought::OffLine(q))?;
-    let s = first_suited(coords, n, Sought::OffPlane(q, r))?;
+    let q = find_q(coords, n)?;
+    let r = find_r(coords, n, q)?;
+    let s = find_s(coords, n, q, r)?;
     Some(Start {
         p: TouchNo(0),
         q,
