@@ -1,14 +1,13 @@
 -- The search for P, Q, R and S, and the table of the starting faces.
-use mathlib.Core.Path.{◌≡◌, refl, sym, ap, subst, ◌∙◌}
+use mathlib.Core.Path.{◌≡◌, refl, sym, ap, ◌∙◌}
 use mathlib.Core.Bool.{Bool, true, false, cond}
 use mathlib.Core.List.{List, [], ◌∷◌, map}
 use mathlib.Core.Option.{Option, none, some}
-use Prim.Native.Nat.{ℕ, zero, suc, ◌<◌, ◌≤◌}
+use Prim.Native.Nat.{ℕ, zero, suc, ◌<◌}
 use native.Mathlib.Omega.{arith}
 use lib.IntN.{ℤ, pos}
 use lib.Signed.{lt_z}
 use lib.ListN.{get_or}
-use lib.Seq.{take_all}
 use native.Mathlib.Numerals.{add-one}
 use Rattle.std.specs.Prelude.{Option as Maybe, None, Some}
 use Rattle.std.specs.Option.{option_map}
@@ -23,12 +22,12 @@ use Rattle.std.specs.Iterator.Adapters.{map_source, map_callee}
 use Rattle.std.proofs.iter.Yields.{nat_range_steps}
 use Rattle.std.proofs.lemmas.Iterator.{maps, YieldsList-from_range, YieldsList-from_map}
 use Rattle.std.proofs.lemmas.Iterator.Search.{find_from_yields_List}
-use Rattle.laws.specs.Lists.{first, upward, Laid}
+use Rattle.laws.specs.Lists.{first, upward}
 use Rattle.laws.proofs.Firsts.{first_some, in_upward}
 use Rattle.touches.specs.declared.TouchNo.{TouchNo}
 use Rattle.touches.specs.Touches.{touch_no}
 use Rattle.volume.specs.Volume.{Vol}
-use Rattle.rules.specs.Faces.{Face, Places}
+use Rattle.rules.specs.Faces.{Places}
 use Rattle.rules.specs.Start.{then, start, find_r, find_s, corners, start_table, start_faces, Start as Four}
 use Rattle.hull.specs.Start.{is_apart, is_off_line, is_off_plane, found_of, started_of}
 

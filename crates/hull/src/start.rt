@@ -40,9 +40,7 @@ fn find_q(coords: &[i32], n: usize) -> Option<TouchNo>
     requires { Sound coords.now × (n ≡ touch_count coords.now) }
     ensures { result ≡ found_of (first (is_apart (touch coords.now)) (upward 0 n)) }
 {
-    (0..n as u16)
-        .map(TouchNo)
-        .find(|k| !same_place(touch(coords, TouchNo(0)), touch(coords, *k)))
+    (0..n as u16).map(TouchNo).find(|k| !same_place(touch(coords, TouchNo(0)), touch(coords, *k)))
 }
 
 // R: the first touch off the line of P and Q.
@@ -65,13 +63,11 @@ fn find_s(coords: &[i32], n: usize, q: TouchNo, r: TouchNo) -> Option<TouchNo>
     let p = touch(coords, TouchNo(0));
     let q = touch(coords, q);
     let r = touch(coords, r);
-    (0..n as u16)
-        .map(TouchNo)
-        .find(
-            |k|
-                requires { Sound coords.now × (k.now.0 < touch_count coords.now) × Near p × Near q × Near r }
-            { volume(p, q, r, touch(coords, *k)) != 0 },
-        )
+    (0..n as u16).map(TouchNo).find(
+        |k|
+            requires { Sound coords.now × (k.now.0 < touch_count coords.now) × Near p × Near q × Near r }
+        { volume(p, q, r, touch(coords, *k)) != 0 },
+    )
 }
 
 // P, Q, R and S, or none where the touches are flat.
@@ -110,8 +106,8 @@ pub(crate) fn put_start(table: &mut [[u16; 3]], coords: &[i32], s: Start) -> usi
     ensures { Laid 0 (start_faces (corners (touch coords.now) (start_of s))) table.old result table.new }
 {
     let abcd = corners(coords, s);
-    for (i, t) in START.iter().enumerate() {
-        table[i] = [abcd[t[0]], abcd[t[1]], abcd[t[2]]];
+    for (i, [a, b, c]) in START.iter().enumerate() {
+        table[i] = [abcd[*a], abcd[*b], abcd[*c]];
     }
     START.len()
 }

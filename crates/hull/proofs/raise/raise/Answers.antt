@@ -1,7 +1,4 @@
-use Rattle.std.proofs.Common.{refl, sym, ◌≡◌, ◌∙◌, ◌<◌, false, arith}
-use Rattle.touches.specs.Touches.{touch_count}
-use Rattle.rules.specs.Start.{is_start}
-use Rattle.hull.specs.Start.{start_of}
+use Rattle.std.proofs.Common.{sym, ◌∙◌, arith}
 use Rattle.border.proofs.MarkLaws.{fresh_later}
 use Rattle.hull.proofs.WholeLaws.{planed_none}
 use Rattle.hull.proofs.RaiseLaws.{known_start, tables_kept, start_faces_lem, start_room, taken_start, taken_skip, taken_ready, taken_room, step_room, taken_step}

@@ -1,5 +1,4 @@
 -- The loop's invariant: the touches below k are taken.
-use Rattle.std.proofs.Common.{length, ◌≡◌}
 use Rattle.border.specs.Marks.{Fresh}
 use Rattle.hull.specs.Start.{start_of}
 use Rattle.hull.specs.Inner.{Taken}
