@@ -8,11 +8,11 @@ use native.Mathlib.Omega.{arith}
 use lib.IntN.{ℤ}
 use lib.ListN.{length, take, get_or}
 use lib.Seq.{get_or-take}
-use Rattle.std.specs.Prelude.{None, Some}
+use Rattle.std.specs.Prelude.{None}
 use Rattle.laws.specs.Lists.{In, Laid}
 use Rattle.laws.proofs.Members.{get_or_in}
 use Rattle.laws.proofs.Tables.{laid_first}
-use Rattle.touches.specs.Touches.{touch, touch_count, Sound}
+use Rattle.touches.specs.Touches.{touch, touch_count}
 use Rattle.rules.specs.Faces.{Face}
 use Rattle.rules.specs.Start.{start, corners, start_faces, is_start, Start as Four}
 use Rattle.rules.specs.Building.{step, build, after, others}
@@ -65,13 +65,6 @@ pub tables_kept : {cs : List ℤ} {table table' seen seen' : List Face} {planes 
 tables_kept t a b c d = record { room = omega (arith, t.room, a); planes_long = omega (arith, t.planes_long, a, b); seen_long = omega (arith, t.seen_long, a, c); mark_table = marks_kept t.mark_table d }
 
 -- ---- the start
-start_some : (o : Option Four) {f : Start} → Some f ≡ started_of o → o ≡ some (start_of f)
-start_some none e = cc
-start_some (some s) {f} e = ap some (ap start_of (sym g))
-  where
-    g : f ≡ record { p = record { 0 = s.P }; q = record { 0 = s.Q }; r = record { 0 = s.R }; s = record { 0 = s.S } }
-    g = cc
-
 start_none : (o : Option Four) → None ≡ started_of o → o ≡ none
 start_none none e = refl
 start_none (some s) e = cc
@@ -79,10 +72,6 @@ start_none (some s) e = cc
 module _ (cs : List ℤ) {n : ℕ} (c : n ≡ touch_count cs) where
   pub hull_flat : None ≡ started_of (start (touch cs) n) → hull_of cs ≡ none
   hull_flat e = hull_none (touch cs) (touch_count cs) (rw c at (start_none (start (touch cs) n) e))
-
-  module _ (d : Sound cs) (f : Start) (e : Some f ≡ started_of (start (touch cs) n)) where
-    pub begun : Begun cs (start_of f)
-    begun = record { sound = d; begins = rw c at (start_some (start (touch cs) n) e) }
 
 pub known_start : {cs : List ℤ} (f : Start) → Begun cs (start_of f) → KnownStart (touch_count cs) f
 known_start {cs} f b = let o = start_order (touch cs) (touch_count cs) b.begins in record { p = omega (arith, o); q = omega (arith, o); r = omega (arith, o); s = omega (arith, o) }

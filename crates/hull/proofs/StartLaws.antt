@@ -1,12 +1,10 @@
 -- The search for P, Q, R and S, and the table of the starting faces.
 use mathlib.Core.Path.{◌≡◌, refl, sym, ap, ◌∙◌}
-use mathlib.Core.Bool.{Bool, true, false, cond}
+use mathlib.Core.Bool.{Bool, true, false}
 use mathlib.Core.List.{List, [], ◌∷◌, map}
 use mathlib.Core.Option.{Option, none, some}
 use Prim.Native.Nat.{ℕ, zero, suc, ◌<◌}
 use native.Mathlib.Omega.{arith}
-use lib.IntN.{ℤ, pos}
-use lib.Signed.{lt_z}
 use lib.ListN.{get_or}
 use native.Mathlib.Numerals.{add-one}
 use Rattle.std.specs.Prelude.{Option as Maybe, None, Some}
@@ -26,9 +24,8 @@ use Rattle.laws.specs.Lists.{first, upward}
 use Rattle.laws.proofs.Firsts.{first_some, in_upward}
 use Rattle.touches.specs.declared.TouchNo.{TouchNo}
 use Rattle.touches.specs.Touches.{touch_no}
-use Rattle.volume.specs.Volume.{Vol}
 use Rattle.rules.specs.Faces.{Places}
-use Rattle.rules.specs.Start.{then, start, find_r, find_s, corners, start_table, start_faces, Start as Four}
+use Rattle.rules.specs.Start.{then, start, find_r, find_s, start_table, start_faces, Start as Four}
 use Rattle.hull.specs.Start.{is_apart, is_off_line, is_off_plane, found_of, started_of}
 
 -- ---- what a search gave, as the rule has it
@@ -96,9 +93,6 @@ module _ (p : Places) (n : ℕ) where
       four : ℕ → ℕ → ℕ → Four
       four q r s = record { P = 0; Q = q; R = r; S = s }
 
-  pub flat_Q : None ≡ found_of (sought n (is_apart p)) → None ≡ started_of (start p n)
-  flat_Q e = sym (ap started_of (after_Q (none_suited n (is_apart p) e)))
-
   module _ (q : TouchNo) (eq : Some q ≡ found_of (sought n (is_apart p))) where
     pub flat_R : None ≡ found_of (sought n (is_off_line p q.0)) → None ≡ started_of (start p n)
     flat_R e = sym (ap started_of (after_Q (suited_at n (is_apart p) eq) ∙ after_R q (none_suited n (is_off_line p q.0) e)))
@@ -109,17 +103,6 @@ module _ (p : Places) (n : ℕ) where
 
       pub started : (s : TouchNo) → Some s ≡ found_of (sought n (is_off_plane p q.0 r.0)) → Some (record { p = touch_no 0; q = q; r = r; s = s }) ≡ started_of (start p n)
       started s e = sym (ap started_of (after_Q (suited_at n (is_apart p) eq) ∙ after_R q (suited_at n (is_off_line p q.0) er) ∙ after_S q r (suited_at n (is_off_plane p q.0 r.0) e)))
-
--- ---- A, B, C, D by the code's comparison, v being V(P,Q,R,S)
-module _ (p : Places) (s : Four) {v : ℤ} (e : v ≡ Vol (p s.P) (p s.Q) (p s.R) (p s.S)) where
-  by : {b : Bool} → lt_z (pos 0) v ≡ b → corners p s ≡ cond b (s.P ∷ s.Q ∷ s.R ∷ s.S ∷ []) (s.Q ∷ s.P ∷ s.R ∷ s.S ∷ [])
-  by h = ap (λ (b : Bool). cond b (s.P ∷ s.Q ∷ s.R ∷ s.S ∷ []) (s.Q ∷ s.P ∷ s.R ∷ s.S ∷ [])) (ap (lt_z (pos 0)) (sym e) ∙ h)
-
-  pub corners_kept : lt_z (pos 0) v ≡ true → s.P ∷ s.Q ∷ s.R ∷ s.S ∷ [] ≡ corners p s
-  corners_kept h = sym (by h)
-
-  pub corners_turned : lt_z (pos 0) v ≡ false → s.Q ∷ s.P ∷ s.R ∷ s.S ∷ [] ≡ corners p s
-  corners_turned h = sym (by h)
 
 -- ---- the table of four
 pub start_face_is : (abcd : List ℕ) (i : ℕ) → i < 4

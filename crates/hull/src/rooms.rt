@@ -27,7 +27,7 @@ const NO_PLANE: [i64; 4] = [0, 0, 0, 1];
 
 const NO_MARK: u16 = 1;
 
-// In tables for FACES faces and MARKS marks.
+// In tables for FACES faces and MARKS marks. The bounds on these two numbers keep the sizes of the tables in range.
 fn build_in<const FACES: usize, const MARKS: usize>(
     faces: &mut [u16],
     coords: &[i32],

@@ -13,6 +13,7 @@ use touches::{Point, TouchNo};
 // The starting faces, by place among A, B, C, D.
 const START: [[usize; 3]; 4] = [[0, 1, 2], [0, 3, 1], [1, 3, 2], [2, 3, 0]];
 
+// P, Q, R and S.
 #[derive(Clone, Copy)]
 pub(crate) struct Start {
     pub(crate) p: TouchNo,
@@ -22,6 +23,7 @@ pub(crate) struct Start {
 }
 
 impl Start {
+    // Touch k is one of the four.
     pub(crate) fn has(self, k: TouchNo) -> bool
         ensures { result ≡ is_start (start_of self) k.0 }
     {
