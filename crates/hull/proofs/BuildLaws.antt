@@ -2,18 +2,16 @@
 use Rattle.std.specs.Prelude.{Result, Ok, Err}
 use mathlib.Core.Path.{◌≡◌, refl, sym, ap, ◌∙◌}
 use mathlib.Core.Bool.{Bool}
-use mathlib.Core.List.{List, [], ◌∷◌}
+use mathlib.Core.List.{List, []}
 use mathlib.Core.Option.{some}
-use Prim.Native.Nat.{ℕ, zero, suc, ◌+◌, ◌*◌, ◌<◌, ◌≤◌}
-use native.Mathlib.Nat.{le_trans, mul-le-mul}
+use Prim.Native.Nat.{ℕ, ◌<◌, ◌≤◌}
+use native.Mathlib.Nat.{le_trans}
 use native.Mathlib.Omega.{arith}
 use borrow.Author.Tests.{le-leb, lt-leb}
-use lib.Dec.{T, leb, leb→le}
+use lib.Dec.{leb}
 use lib.IntN.{ℤ}
-use lib.ListN.{length, take, get_or}
+use lib.ListN.{length, take}
 use lib.Seq.{get_or-take}
-use Rattle.laws.specs.Lists.{every}
-use Rattle.laws.proofs.Tests.{and_both}
 use Rattle.touches.specs.declared.refusal.Refusal.TheVariants.{FaceTableTooSmall}
 use Rattle.touches.specs.declared.refusal.Refusal.{Refusal}
 use Rattle.touches.specs.Limits.{most_faces}
@@ -26,7 +24,6 @@ use Rattle.rules.proofs.AfterLaws.{hull_built, hull_some}
 use Rattle.rules.proofs.Theorems.{start_order, hull_surface, accepted_few}
 use Rattle.cover.specs.Room.{enough}
 use Rattle.cover.proofs.Theorems.{hull_few}
-use Rattle.border.specs.Marks.{MarkTable, Fresh}
 use Rattle.points.specs.Whole.{Plane, plane_on}
 use Rattle.hull.specs.Build.{hull_of, hull_with, built_from}
 use Rattle.hull.specs.Whole.{Planed}
@@ -37,7 +34,6 @@ use Rattle.hull.specs.declared.build.Hull.{Hull}
 module _ {cs : List ℤ} (d : Sound cs) {h : List Face} (e : hull_of cs ≡ some h) where
   pub hull_ready : Ready cs h 0
   hull_ready = record {
-    sound = d;
     faces = (hull_surface (touch cs) (touch_count cs) e).corners;
     touch = omega (arith, start_order (touch cs) (touch_count cs) (hull_built (touch cs) (touch_count cs) e).1);
   }
@@ -78,15 +74,3 @@ module _ {cs : List ℤ} {s : Four} (b : Begun cs s) {m : ℕ} {table : List Fac
   -- and what it gives
   pub front_builds : {old after : List ℕ} {r : Result Hull Refusal} → Builds cs (some (take m table)) old r after → Builds cs (hull_of cs) old r after
   front_builds w = rw front_hull w
-
--- ---- the work tables before the first touch: marks for n touches, all 1
-pub marks_for : {cs : List ℤ} {n : ℕ} {marks : List ℕ} → Sound cs → touch_count cs ≤ n → n * n ≤ length marks → MarkTable (touch_count cs) marks
-marks_for d h r = record { few = accepted_few d; room = le_trans (mul-le-mul h h) r }
-
-pub fresh_ones : (marks : List ℕ) → T (every (λ x. leb x 1) marks) → Fresh 0 marks
-fresh_ones marks h = record { old = go marks h }
-  where
-    go : (l : List ℕ) → T (every (λ x. leb x 1) l) → (j : ℕ) → get_or l j 0 ≤ 0 + 1
-    go [] h j = omega arith
-    go (x ∷ l) h zero = leb→le x 1 (and_both (leb x 1) (every (λ y. leb y 1) l) h).0
-    go (x ∷ l) h (suc j) = go l (and_both (leb x 1) (every (λ y. leb y 1) l) h).1 j
