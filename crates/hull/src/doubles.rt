@@ -1,21 +1,19 @@
 // V worked in doubles, as the chapter does: an inner step, on coordinates already checked.
 ghost use Rattle.std.specs.Prelude.{◌≡◌};
 ghost use Rattle.laws.specs.Doubles.{double};
-ghost use Rattle.touches.specs.Touches.{Near};
 ghost use Rattle.volume.specs.Volume.{Vol};
 
-use points::doubles::in_doubles;
-use touches::Point;
+use points::doubles::Spot;
+use touches::Place;
 
 // The steps and the names of Code 4.16; the last step makes a zero plus zero.
-pub(crate) fn volume(a: Point, b: Point, c: Point, d: Point) -> f64
-    requires { Near a × Near b × Near c × Near d }
+pub(crate) fn volume(a: Place, b: Place, c: Place, d: Place) -> f64
     ensures { result ≡ double (Vol a b c d) }
 {
-    let p = in_doubles(a);
-    let q = in_doubles(b);
-    let r = in_doubles(c);
-    let s = in_doubles(d);
+    let p = Spot::from(a);
+    let q = Spot::from(b);
+    let r = Spot::from(c);
+    let s = Spot::from(d);
     let ax = p.x - s.x;
     let ay = p.y - s.y;
     let az = p.z - s.z;

@@ -1,6 +1,6 @@
 // V of a face, given by its touch numbers, and a point; and whether the face holds the point.
 ghost use Rattle.std.specs.Prelude.{◌≡◌};
-ghost use Rattle.touches.specs.Touches.{touch, plain, Near, Sound};
+ghost use Rattle.touches.specs.Touches.{touch, plain};
 ghost use Rattle.volume.specs.Volume.{most_volume};
 ghost use Rattle.rules.specs.Faces.{face_vol};
 ghost use Rattle.rules.specs.Placing.{holds};
@@ -9,29 +9,29 @@ ghost use Rattle.points.specs.Sizes.{Number};
 
 use crate::four_corner::volume;
 use points::touch::touch;
-use touches::{Point, TouchNo};
+use touches::{Place, TouchList, TouchNo};
 use triangles::contains;
 
-pub(crate) fn face_volume(coords: &[i32], f: [TouchNo; 3], q: Point) -> i64
-    requires { Sound coords.now × FaceOf coords.now (plain f) × Near q }
-    ensures { Number most_volume (face_vol (touch coords.now) (plain f) q) result }
+pub(crate) fn face_volume(list: &TouchList<'_>, f: [TouchNo; 3], q: Place) -> i64
+    requires { FaceOf list.now (plain f) }
+    ensures { Number most_volume (face_vol (touch list.now) (plain f) q) result }
 {
-    let a = touch(coords, f[0]);
-    let b = touch(coords, f[1]);
-    let c = touch(coords, f[2]);
+    let a = touch(list, f[0]);
+    let b = touch(list, f[1]);
+    let c = touch(list, f[2]);
     volume(a, b, c, q)
 }
 
 // V of the face and q is known: v.
-pub(crate) fn face_holds(coords: &[i32], f: [TouchNo; 3], q: Point, v: i64) -> bool
-    requires { Sound coords.now × FaceOf coords.now (plain f) × Near q × Number most_volume (face_vol (touch coords.now) (plain f) q) v }
-    ensures { result ≡ holds (touch coords.now) (plain f) q }
+pub(crate) fn face_holds(list: &TouchList<'_>, f: [TouchNo; 3], q: Place, v: i64) -> bool
+    requires { FaceOf list.now (plain f) × Number most_volume (face_vol (touch list.now) (plain f) q) v }
+    ensures { result ≡ holds (touch list.now) (plain f) q }
 {
     if v != 0 {
         return false;
     }
-    let a = touch(coords, f[0]);
-    let b = touch(coords, f[1]);
-    let c = touch(coords, f[2]);
+    let a = touch(list, f[0]);
+    let b = touch(list, f[1]);
+    let c = touch(list, f[2]);
     contains(a, b, c, q)
 }

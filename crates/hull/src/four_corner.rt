@@ -1,13 +1,11 @@
 // V of four points: an inner step, on coordinates already checked.
-ghost use Rattle.touches.specs.Touches.{Near};
 ghost use Rattle.volume.specs.Volume.{Vol, most_volume};
 ghost use Rattle.points.specs.Sizes.{Number};
 
-use touches::Point;
+use touches::Place;
 
 // V in whole numbers, the differences taken from d: the steps and the names of Code 4.16.
-pub(crate) fn volume(a: Point, b: Point, c: Point, d: Point) -> i64
-    requires { Near a × Near b × Near c × Near d }
+pub(crate) fn volume(a: Place, b: Place, c: Place, d: Place) -> i64
     ensures { Number most_volume (Vol a b c d) result }
 {
     let ax = a.x - d.x;
