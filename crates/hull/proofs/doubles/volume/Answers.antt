@@ -7,20 +7,19 @@ use Rattle.hull.proofs.doubles.volume.Goals as goal
 
 pub returns : goal.returns
 returns c =
-    let h = c.requires in
-    let ea = c.in_doubles-p.ensures in
-    let eb = c.in_doubles-q.ensures in
-    let ec = c.in_doubles-r.ensures in
-    let ed = c.in_doubles-s.ensures in
-    let ax = gap_x h.3 ed h.0 ea in
-    let ay = gap_y h.3 ed h.0 ea in
-    let az = gap_z h.3 ed h.0 ea in
-    let bx = gap_x h.3 ed h.1 eb in
-    let by = gap_y h.3 ed h.1 eb in
-    let bz = gap_z h.3 ed h.1 eb in
-    let cx = gap_x h.3 ed h.2 ec in
-    let cy = gap_y h.3 ed h.2 ec in
-    let cz = gap_z h.3 ed h.2 ec in
+    let ea = c.from-p.ensures in
+    let eb = c.from-q.ensures in
+    let ec = c.from-r.ensures in
+    let ed = c.from-s.ensures in
+    let ax = gap_x ed ea in
+    let ay = gap_y ed ea in
+    let az = gap_z ed ea in
+    let bx = gap_x ed eb in
+    let by = gap_y ed eb in
+    let bz = gap_z ed eb in
+    let cx = gap_x ed ec in
+    let cy = gap_y ed ec in
+    let cz = gap_z ed ec in
     let x = e_mul tt ax (part by bz cy cz) in
     let y = e_mul tt ay (part bz bx cz cx) in
     let z = e_mul tt az (part bx by cx cy) in

@@ -23,24 +23,24 @@ at p f k e = e ∙ ap p (sym (plain_at f k))
 pub returns-then-v-ne0 : goal.returns-then-v-ne0
 returns-then-v-ne0 c =
     let a = c.args in
-    holds_by (touch a.coords.now) (plain a.f) a.q c.requires.3 (ne_eqb (of_z w64 a.v) 0 c.if-v-ne0.true)
+    holds_by (touch a.list.now) (plain a.f) a.q c.requires.1 (ne_eqb (of_z w64 a.v) 0 c.if-v-ne0.true)
 
 pub contains-requires : goal.contains-requires
 unfolding face_vol
 contains-requires c =
     let s = c.args in
-    let t = touch s.coords.now in
+    let t = touch s.list.now in
     let a = c.touch-a.ensures in
     let b = c.touch-b.ensures in
     let d = c.touch-c.ensures in
-    let z = flat_zero t (plain s.f) s.q c.requires.3 (ap (λ (n : ℕ). eqb n 0) c.if-v-ne0.false) refl in
-    (a.small, b.small, d.small, c.requires.2, (λ i. Vol (at t s.f 0 a.is i) (at t s.f 1 b.is i) (at t s.f 2 d.is i) s.q) ∙ z)
+    let z = flat_zero t (plain s.f) s.q c.requires.1 (ap (λ (n : ℕ). eqb n 0) c.if-v-ne0.false) refl in
+    (λ i. Vol (at t s.f 0 a i) (at t s.f 1 b i) (at t s.f 2 d i) s.q) ∙ z
 
 pub returns : goal.returns
 returns c =
     let s = c.args in
-    let t = touch s.coords.now in
-    let a = c.touch-a.ensures.is in
-    let b = c.touch-b.ensures.is in
-    let d = c.touch-c.ensures.is in
-    c.contains.ensures ∙ (λ i. contains (at t s.f 0 a i) (at t s.f 1 b i) (at t s.f 2 d i) s.q) ∙ holds_by t (plain s.f) s.q c.requires.3 (ap (λ (n : ℕ). eqb n 0) c.if-v-ne0.false)
+    let t = touch s.list.now in
+    let a = c.touch-a.ensures in
+    let b = c.touch-b.ensures in
+    let d = c.touch-c.ensures in
+    c.contains.ensures ∙ (λ i. contains (at t s.f 0 a i) (at t s.f 1 b i) (at t s.f 2 d i) s.q) ∙ holds_by t (plain s.f) s.q c.requires.1 (ap (λ (n : ℕ). eqb n 0) c.if-v-ne0.false)

@@ -8,7 +8,7 @@ pub returns : goal.returns
 unfolding face_vol
 returns c =
     let v = c.volume.ensures in
-    let a = c.touch-a.ensures.is in
-    let b = c.touch-b.ensures.is in
-    let d = c.touch-c.ensures.is in
+    let a = c.touch-a.ensures in
+    let b = c.touch-b.ensures in
+    let d = c.touch-c.ensures in
     record { is = back tt v ∙ simp (a, b, d, plain_at); small = back_small tt v }
