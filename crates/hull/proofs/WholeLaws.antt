@@ -29,9 +29,9 @@ unfolding face_vol
 read_is p f q = sym (plane_vol (p (corner f 0)) (p (corner f 1)) (p (corner f 2)) q)
 
 -- of a plane of a table
-pub planed_number : {cs : List ℤ} {faces : List Face} {planes : List Plane} {j : ℕ} {B : ℕ} {q : Point} {r : ℤ} → PlanedAt cs faces planes j
+pub planed_number : {cs : List ℤ} {faces : List Face} {planes : List Plane} {j B : ℕ} (q : Point) {r : ℤ} → PlanedAt cs faces planes j
     → Number B (read_at (get_or planes j no_plane) q) r → Number B (face_vol (touch cs) (get_or faces j []) q) r
-planed_number {cs} {faces} {j = j} {q = q} e n = record { is = n.is ∙ ap (λ (w : Plane). read_at w q) e.is ∙ read_is (touch cs) (get_or faces j []) q; small = n.small }
+planed_number {cs} {faces} {j = j} q e n = record { is = n.is ∙ ap (λ (w : Plane). read_at w q) e.is ∙ read_is (touch cs) (get_or faces j []) q; small = n.small }
 
 -- ---- a plane stored at place i
 pub planed_none : (cs : List ℤ) (faces : List Face) (planes : List Plane) → Planed cs 0 faces planes

@@ -1,5 +1,6 @@
-use Rattle.std.proofs.Common.{length, ◌<◌, arith}
+use Rattle.std.proofs.Common.{◌≡◌, ◌∙◌, length, get_or, ◌<◌, arith}
 use lib.Seq.{get_or-take, length-take-le}
+use Rattle.std.proofs.lemmas.List.{get_or_default}
 use Rattle.touches.specs.Touches.{touch}
 use Rattle.hull.specs.Whole.{no_plane}
 use Rattle.hull.proofs.WholeLaws.{planed_number}
@@ -13,7 +14,8 @@ loop-p-preserved c =
     let t = c.args.hull.now in
     let l : i < length t = omega (arith, c.loop-p-test.true, length-take-le (length t) c.args.planes.now h.2) in
     let g : Summed (touch c.args.list.now) c.touch-q.result t i c.loop-p.sum-bits = record { reads = c.loop-p.invariant } in
-    (summed_more g (planed_number (h.1.each i l) (rw (get_or-take (length t) c.args.planes.now i no_plane l) at c.read-sum.ensures)) l h.3).reads
+    let p : c.p-item.result ≡ get_or c.args.planes.now i no_plane = c.p-item.is ∙ get_or_default _ i _ no_plane c.loop-p-test.true ∙ get_or-take (length t) c.args.planes.now i no_plane l in
+    (summed_more g (planed_number c.touch-q.result (h.1.each i l) (rw p at c.read-sum.ensures)) l h.3).reads
 
 pub returns : goal.returns
 returns c =

@@ -6,4 +6,4 @@ use Rattle.hull.proofs.start.find_q.Goals as goal
 
 pub returns : goal.returns
 returns c =
-    first_found _ _ _ (is_apart (touch c.args.list.now)) c.args.n c.find.ensures.ran c.map.ensures.source c.map.ensures.closure (λ x y k h. search rules) (λ x b k h. search (rules, tests))
+    rw c.count.ensures.is at (first_found _ _ _ (is_apart (touch c.args.list.now)) c.count.result c.find.ensures.ran c.map.ensures.source c.map.ensures.closure (λ x y k h. search rules) (λ x b k h. search (rules, tests)))

@@ -1,9 +1,9 @@
-use Rattle.std.proofs.Common.{◌≡◌, ap, ap₂, ◌∙◌}
+use Rattle.std.proofs.Common.{ap, ◌∙◌}
 use lib.IntN.{ℤ, ◌-ℤ◌}
 use mir.Syntax.{w64}
 use Rattle.laws.proofs.Words.{r_i64, r_sub, fits, stored, size}
-use Rattle.touches.specs.declared.Point.{Point}
-use Rattle.volume.specs.Volume.{dot}
+use Rattle.points.specs.Whole.{Plane}
+use Rattle.hull.specs.Whole.{read_at}
 use Rattle.hull.proofs.whole.read.Goals as goal
 
 pub overflow_sub-result : goal.overflow_sub-result
@@ -12,4 +12,4 @@ overflow_sub-result c = fits w64 (r_sub (r_i64 tt c.p.invariant.offset) (r_i64 t
 pub returns : goal.returns
 returns c =
     let r = stored w64 (r_sub (r_i64 tt c.p.invariant.offset) (r_i64 tt c.dot.ensures.small)) tt in
-    record { is = r.is; small = size r }
+    record { is = r.is ∙ ap (λ (z : ℤ). c.p.inside.offset -ℤ z) c.dot.ensures.is ∙ ap (λ (w : Plane). read_at w c.args.q) c.p.view_is; small = size r }
