@@ -6,46 +6,46 @@ use Rattle.hull.proofs.FourCornerLaws.{ranges, steps_are}
 use Rattle.hull.proofs.four_corner.volume.Goals as goal
 
 pub overflow_mul-result : goal.overflow_mul-result
-overflow_mul-result c = let h = (c.a.invariant, c.b.invariant, c.c.invariant, c.d.invariant) in search ranges
+overflow_mul-result c = search ranges
 
 pub overflow_mul-result-2 : goal.overflow_mul-result-2
-overflow_mul-result-2 c = let h = (c.a.invariant, c.b.invariant, c.c.invariant, c.d.invariant) in search ranges
+overflow_mul-result-2 c = search ranges
 
 pub overflow_sub-result : goal.overflow_sub-result
-overflow_sub-result c = let h = (c.a.invariant, c.b.invariant, c.c.invariant, c.d.invariant) in search ranges
+overflow_sub-result c = search ranges
 
 pub overflow_mul-result-3 : goal.overflow_mul-result-3
-overflow_mul-result-3 c = let h = (c.a.invariant, c.b.invariant, c.c.invariant, c.d.invariant) in search ranges
+overflow_mul-result-3 c = search ranges
 
 pub overflow_mul-result-4 : goal.overflow_mul-result-4
-overflow_mul-result-4 c = let h = (c.a.invariant, c.b.invariant, c.c.invariant, c.d.invariant) in search ranges
+overflow_mul-result-4 c = search ranges
 
 pub overflow_mul-result-5 : goal.overflow_mul-result-5
-overflow_mul-result-5 c = let h = (c.a.invariant, c.b.invariant, c.c.invariant, c.d.invariant) in search ranges
+overflow_mul-result-5 c = search ranges
 
 pub overflow_sub-result-2 : goal.overflow_sub-result-2
-overflow_sub-result-2 c = let h = (c.a.invariant, c.b.invariant, c.c.invariant, c.d.invariant) in search ranges
+overflow_sub-result-2 c = search ranges
 
 pub overflow_mul-result-6 : goal.overflow_mul-result-6
-overflow_mul-result-6 c = let h = (c.a.invariant, c.b.invariant, c.c.invariant, c.d.invariant) in search ranges
+overflow_mul-result-6 c = search ranges
 
 pub overflow_add-result : goal.overflow_add-result
-overflow_add-result c = let h = (c.a.invariant, c.b.invariant, c.c.invariant, c.d.invariant) in search ranges depth 6
+overflow_add-result c = search ranges depth 6
 
 pub overflow_mul-result-7 : goal.overflow_mul-result-7
-overflow_mul-result-7 c = let h = (c.a.invariant, c.b.invariant, c.c.invariant, c.d.invariant) in search ranges
+overflow_mul-result-7 c = search ranges
 
 pub overflow_mul-result-8 : goal.overflow_mul-result-8
-overflow_mul-result-8 c = let h = (c.a.invariant, c.b.invariant, c.c.invariant, c.d.invariant) in search ranges
+overflow_mul-result-8 c = search ranges
 
 pub overflow_sub-result-3 : goal.overflow_sub-result-3
-overflow_sub-result-3 c = let h = (c.a.invariant, c.b.invariant, c.c.invariant, c.d.invariant) in search ranges
+overflow_sub-result-3 c = search ranges
 
 pub overflow_mul-result-9 : goal.overflow_mul-result-9
-overflow_mul-result-9 c = let h = (c.a.invariant, c.b.invariant, c.c.invariant, c.d.invariant) in search ranges
+overflow_mul-result-9 c = search ranges
 
 pub overflow_add-result-2 : goal.overflow_add-result-2
-overflow_add-result-2 c = let h = (c.a.invariant, c.b.invariant, c.c.invariant, c.d.invariant) in search ranges depth 7
+overflow_add-result-2 c = search ranges depth 7
 
 pub returns : goal.returns
 returns c =
