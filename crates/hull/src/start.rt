@@ -64,11 +64,9 @@ fn find_s(list: &TouchList<'_>, q: TouchNo, r: TouchNo) -> Option<TouchNo>
     let p = touch(list, TouchNo(0));
     let q = touch(list, q);
     let r = touch(list, r);
-    (0..list.count() as u16).map(TouchNo).find(
-        |k|
-            requires { (k.now.0 < touch_count list.now) }
-        { volume(p, q, r, touch(list, *k)) != 0 },
-    )
+    (0..list.count() as u16)
+        .map(TouchNo)
+        .find(|k| volume(p, q, r, touch(list, *k)) != 0)
 }
 
 // P, Q, R and S, or none where the touches are flat.
