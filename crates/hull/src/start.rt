@@ -2,13 +2,13 @@
 ghost use Rattle.std.specs.Prelude.{◌≡◌, [], ◌<◌, ◌≤◌, length, get_or};
 ghost use Rattle.laws.specs.Lists.{first, upward, Laid};
 ghost use Rattle.touches.specs.Touches.{touch, touch_count};
-ghost use Rattle.rules.specs.Start.{same_place, start, corners, start_faces, is_start};
+ghost use Rattle.rules.specs.Start.{start, corners, start_faces, is_start};
 ghost use Rattle.hull.specs.Start.{is_apart, is_off_line, is_off_plane, found_of, start_of, started_of, KnownStart};
 
 use crate::four_corner::volume;
 use points::touch::touch;
 use points::vectors::in_line;
-use touches::{Place, TouchList, TouchNo};
+use touches::{TouchList, TouchNo};
 
 // The starting faces, by place among A, B, C, D.
 const START: [[usize; 3]; 4] = [[0, 1, 2], [0, 3, 1], [1, 3, 2], [2, 3, 0]];
@@ -31,17 +31,11 @@ impl Start {
     }
 }
 
-fn same_place(p: Place, q: Place) -> bool
-    ensures { result ≡ same_place p q }
-{
-    (p.x == q.x) & ((p.y == q.y) & (p.z == q.z))
-}
-
 // Q: the first touch apart from P.
 fn find_q(list: &TouchList<'_>) -> Option<TouchNo>
     ensures { result ≡ found_of (first (is_apart (touch list.now)) (upward 0 (touch_count list.now))) }
 {
-    (0..list.count() as u16).map(TouchNo).find(|k| !same_place(touch(list, TouchNo(0)), touch(list, *k)))
+    (0..list.count() as u16).map(TouchNo).find(|k| touch(list, TouchNo(0)) != touch(list, *k))
 }
 
 // R: the first touch off the line of P and Q.
