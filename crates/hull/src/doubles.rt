@@ -7,7 +7,7 @@ use points::doubles::Spot;
 use touches::Place;
 
 // The steps and the names of Code 4.16; the last step makes a zero plus zero.
-// Apart from `four_corner::volume`: over a trait of numbers the operators of Code 4.16 would be method calls, and no longer the book's line.
+// Not one with `four_corner::volume`: over a trait of numbers its operators would become calls of methods, and the line would not read as the book's.
 pub(crate) fn volume(a: Place, b: Place, c: Place, d: Place) -> f64
     ensures { result ≡ double (Vol a b c d) }
 {

@@ -5,7 +5,7 @@ ghost use Rattle.points.specs.Sizes.{Number};
 use touches::Place;
 
 // V in whole numbers, the differences taken from d: the steps and the names of Code 4.16.
-// Apart from `doubles::volume`: over a trait of numbers the operators of Code 4.16 would be method calls, and no longer the book's line.
+// Not one with `doubles::volume`: over a trait of numbers its operators would become calls of methods, and the line would not read as the book's.
 pub(crate) fn volume(a: Place, b: Place, c: Place, d: Place) -> i64
     ensures { Number most_volume (Vol a b c d) result }
 {

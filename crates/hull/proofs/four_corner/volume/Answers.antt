@@ -5,6 +5,12 @@ use Rattle.volume.proofs.VolumeLaws.{vol_fourth}
 use Rattle.hull.proofs.FourCornerLaws.{ranges, steps_are}
 use Rattle.hull.proofs.four_corner.volume.Goals as goal
 
+pub overflow_sub-cy : goal.overflow_sub-cy
+overflow_sub-cy c = search ranges
+
+pub overflow_sub-cz : goal.overflow_sub-cz
+overflow_sub-cz c = search ranges
+
 pub overflow_mul-result : goal.overflow_mul-result
 overflow_mul-result c = search ranges
 
