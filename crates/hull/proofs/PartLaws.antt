@@ -7,7 +7,6 @@ use native.Mathlib.Omega.{arith}
 use lib.IntN.{ℤ, pos}
 use lib.ListN.{length, take, get_or, set, length-append}
 use lib.Signed.{lt_z}
-use lib.Seq.{get_or-take, length-take-le}
 use Rattle.std.proofs.Common.{length-set}
 use Rattle.std.specs.Prelude.{Some, None, position}
 use Rattle.laws.specs.Lists.{only_if, keep, lay, Laid}

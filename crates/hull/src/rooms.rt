@@ -52,11 +52,7 @@ fn build_in<const FACES: usize, const MARKS: usize>(
 }
 
 // Building from the start: for a few touches in small tables.
-pub(crate) fn build_from(
-    faces: &mut [u16],
-    list: &TouchList<'_>,
-    s: Start,
-) -> Result<Hull, Refusal>
+pub(crate) fn build_from(faces: &mut [u16], list: &TouchList<'_>, s: Start) -> Result<Hull, Refusal>
     requires { Begun list.now (start_of s) }
     ensures { Builds list.now (hull_of list.now) faces.old result faces.new }
 {

@@ -35,12 +35,14 @@ impl Start {
 fn find_q(list: &TouchList<'_>) -> Option<TouchNo>
     ensures { result ≡ found_of (first (is_apart (touch list.now)) (upward 0 (touch_count list.now))) }
 {
-    (0..list.count() as u16).map(TouchNo).find(|k| touch(list, TouchNo(0)) != touch(list, *k))
+    (0..list.count() as u16)
+        .map(TouchNo)
+        .find(|k| touch(list, TouchNo(0)) != touch(list, *k))
 }
 
 // R: the first touch off the line of P and Q.
 fn find_r(list: &TouchList<'_>, q: TouchNo) -> Option<TouchNo>
-    requires { (q.0 < touch_count list.now) }
+    requires { q.0 < touch_count list.now }
     ensures { result ≡ found_of (first (is_off_line (touch list.now) q.0) (upward 0 (touch_count list.now))) }
 {
     let p = touch(list, TouchNo(0));

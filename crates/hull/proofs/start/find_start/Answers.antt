@@ -4,7 +4,7 @@ use Rattle.hull.proofs.StartLaws.{suited_below, flat_R, flat_S, started}
 use Rattle.hull.proofs.start.find_start.Goals as goal
 
 pub find_r-requires : goal.find_r-requires
-find_r-requires c = (suited_below (touch_count c.args.list.now) (is_apart (touch c.args.list.now)) c.in_ok-q.ensures)
+find_r-requires c = suited_below (touch_count c.args.list.now) (is_apart (touch c.args.list.now)) c.in_ok-q.ensures
 
 pub returns-in_err-r : goal.returns-in_err-r
 returns-in_err-r c = rw c.from_residual-in_err-r.ensures (flat_R (touch c.args.list.now) (touch_count c.args.list.now) c.in_ok-q.q c.in_ok-q.ensures c.in_err-r.ensures)
