@@ -1,49 +1,44 @@
 -- Building: what the hull of a checked list has, and the answer by its cases.
-use Rattle.std.specs.Prelude.{Result, Ok, Err}
+use Rattle.std.specs.Prelude.{Result, Ok, Err, None}
 use mathlib.Core.Path.{◌≡◌, refl, sym, ap, ◌∙◌}
 use mathlib.Core.Bool.{Bool}
-use mathlib.Core.List.{List, [], ◌∷◌}
-use mathlib.Core.Option.{some}
-use Prim.Native.Nat.{ℕ, zero, suc, ◌+◌, ◌*◌, ◌<◌, ◌≤◌}
-use native.Mathlib.Nat.{le_trans, mul-le-mul}
+use mathlib.Core.List.{List, []}
+use mathlib.Core.Option.{none, some}
+use Prim.Native.Nat.{ℕ, ◌<◌, ◌≤◌}
+use native.Mathlib.Nat.{le_trans}
 use native.Mathlib.Omega.{arith}
 use borrow.Author.Tests.{le-leb, lt-leb}
-use lib.Dec.{T, leb, leb→le}
+use lib.Dec.{leb}
 use lib.IntN.{ℤ}
-use lib.ListN.{length, take, get_or}
+use lib.ListN.{length, take}
 use lib.Seq.{get_or-take}
-use Rattle.laws.specs.Lists.{every}
-use Rattle.laws.proofs.Tests.{and_both}
-use Rattle.touches.specs.declared.refusal.Refusal.TheVariants.{FaceTableTooSmall}
+use Rattle.touches.specs.declared.refusal.Refusal.TheVariants.{AllTouchesOnOnePlane, FaceTableTooSmall}
 use Rattle.touches.specs.declared.refusal.Refusal.{Refusal}
 use Rattle.touches.specs.Limits.{most_faces}
 use Rattle.touches.specs.Touches.{touch, touch_count, Sound}
-use Rattle.touches.specs.Check.{pick}
+use Rattle.touches.specs.Check.{pick, checked}
+use Rattle.touches.proofs.SoundLaws.{accepted_sound}
 use Rattle.rules.specs.Faces.{Face, Places}
 use Rattle.rules.specs.Building.{volume}
-use Rattle.rules.specs.Start.{Start as Four}
+use Rattle.rules.specs.Start.{start, Start as Four}
 use Rattle.rules.proofs.AfterLaws.{hull_built, hull_some}
-use Rattle.rules.proofs.Theorems.{start_order, hull_surface, accepted_few}
+use Rattle.rules.proofs.Theorems.{start_order, accepted_few}
 use Rattle.cover.specs.Room.{enough}
 use Rattle.cover.proofs.Theorems.{hull_few}
-use Rattle.border.specs.Marks.{MarkTable, Fresh}
 use Rattle.points.specs.Whole.{Plane, plane_on}
-use Rattle.hull.specs.Build.{hull_of, hull_with, built_from}
+use Rattle.hull.specs.Build.{hull_of, hull_with, built_from, built}
 use Rattle.hull.specs.Whole.{Planed}
-use Rattle.hull.specs.Inner.{Ready, Begun, Taken, Builds}
+use Rattle.hull.specs.Inner.{Begun, Taken, Builds}
+use Rattle.hull.specs.Start.{started_of}
+use Rattle.hull.proofs.RaiseLaws.{hull_flat}
 use Rattle.hull.specs.declared.build.Hull.{Hull}
 
--- ---- the hull of a list that passed refusals 1 to 3
-module _ {cs : List ℤ} (d : Sound cs) {h : List Face} (e : hull_of cs ≡ some h) where
-  pub hull_ready : Ready cs h 0
-  hull_ready = record {
-    sound = d;
-    faces = (hull_surface (touch cs) (touch_count cs) e).corners;
-    touch = omega (arith, start_order (touch cs) (touch_count cs) (hull_built (touch cs) (touch_count cs) e).1);
-  }
+-- ---- the hull of a list
+pub hull_touched : (cs : List ℤ) {h : List Face} → hull_of cs ≡ some h → 0 < touch_count cs
+hull_touched cs e = omega (arith, start_order (touch cs) (touch_count cs) (hull_built (touch cs) (touch_count cs) e).1)
 
-  pub hull_most : length h ≤ most_faces
-  hull_most = omega (arith, hull_few (touch cs) (touch_count cs) e, accepted_few d)
+pub hull_most : {cs : List ℤ} → Sound cs → {h : List Face} → hull_of cs ≡ some h → length h ≤ most_faces
+hull_most {cs} d e = omega (arith, hull_few (touch cs) (touch_count cs) e, accepted_few d)
 
 -- ---- the answer: refusal 5 or the hull
 module _ (p : Places) (n : ℕ) (h : List Face) where
@@ -69,8 +64,8 @@ module _ {cs : List ℤ} {s : Four} (b : Begun cs s) {m : ℕ} {table : List Fac
   front_count = t.count ∙ ap length (sym t.faces)
 
   -- what writing them asks
-  pub front_asked : m ≤ length planes → Ready cs (take m table) 0 × Planed cs (length (take m table)) (take m table) planes × (length (take m table) ≤ length planes) × (length (take m table) ≤ most_faces)
-  front_asked h = (hull_ready b.sound front_hull, planed, omega (arith, front_count), hull_most b.sound front_hull)
+  pub front_asked : Sound cs → m ≤ length planes → (0 < touch_count cs) × Planed cs (length (take m table)) (take m table) planes × (length (take m table) ≤ length planes) × (length (take m table) ≤ most_faces)
+  front_asked d h = (hull_touched cs front_hull, planed, omega (arith, front_count), hull_most d front_hull)
     where
       planed : Planed cs (length (take m table)) (take m table) planes
       planed = record { each = λ j l. let i : j < m = omega (arith, front_count) in record { is = (t.planed.each j i).is ∙ ap (plane_on (touch cs)) (sym (get_or-take m table j [] i)) } }
@@ -79,14 +74,8 @@ module _ {cs : List ℤ} {s : Four} (b : Begun cs s) {m : ℕ} {table : List Fac
   pub front_builds : {old after : List ℕ} {r : Result Hull Refusal} → Builds cs (some (take m table)) old r after → Builds cs (hull_of cs) old r after
   front_builds w = rw front_hull w
 
--- ---- the work tables before the first touch: marks for n touches, all 1
-pub marks_for : {cs : List ℤ} {n : ℕ} {marks : List ℕ} → Sound cs → touch_count cs ≤ n → n * n ≤ length marks → MarkTable (touch_count cs) marks
-marks_for d h r = record { few = accepted_few d; room = le_trans (mul-le-mul h h) r }
-
-pub fresh_ones : (marks : List ℕ) → T (every (λ x. leb x 1) marks) → Fresh 0 marks
-fresh_ones marks h = record { old = go marks h }
-  where
-    go : (l : List ℕ) → T (every (λ x. leb x 1) l) → (j : ℕ) → get_or l j 0 ≤ 0 + 1
-    go [] h j = omega arith
-    go (x ∷ l) h zero = leb→le x 1 (and_both (leb x 1) (every (λ y. leb y 1) l) h).0
-    go (x ∷ l) h (suc j) = go l (and_both (leb x 1) (every (λ y. leb y 1) l) h).1 j
+-- ---- a list that passed but whose touches are flat
+pub flat_built : (cs l : List ℤ) (old : List ℕ) → checked cs ≡ Ok l → None ≡ started_of (start (touch l) (touch_count l)) → Err AllTouchesOnOnePlane ≡ built cs old
+flat_built cs l old a e =
+    let f : hull_of cs ≡ none = hull_flat cs refl (rw (accepted_sound cs l a).same at e) in
+    rw (a, f) refl

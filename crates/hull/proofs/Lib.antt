@@ -3,7 +3,6 @@ pub mod WholeLaws
 pub mod PartLaws
 pub mod StepLaws
 pub mod StartLaws
-pub mod OtherLaws
 pub mod RaiseLaws
 pub mod SumLaws
 pub mod BuildLaws

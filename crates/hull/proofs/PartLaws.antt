@@ -7,41 +7,29 @@ use native.Mathlib.Omega.{arith}
 use lib.IntN.{ℤ, pos}
 use lib.ListN.{length, take, get_or, set, length-append}
 use lib.Signed.{lt_z}
-use lib.Seq.{get_or-take, length-take-le}
 use Rattle.std.proofs.Common.{length-set}
-use Rattle.std.specs.Prelude.{Some, None, position, All}
-use Rattle.std.proofs.lemmas.List.Elements.{All-from_get_or}
+use Rattle.std.specs.Prelude.{Some, None, position}
 use Rattle.laws.specs.Lists.{only_if, keep, lay, Laid}
-use Rattle.laws.proofs.Members.{get_or_in}
 use Rattle.laws.proofs.Tables.{lay_none, lay_one, laid_none, laid_one, laid_prefix, laid_past, laid_take, laid_keep, keep_more, keep_first, keep_no_first, length_keep_take}
 use Rattle.touches.specs.declared.Point.{Point}
 use Rattle.touches.specs.Touches.{touch}
 use Rattle.rules.specs.Faces.{Face, visible}
 use Rattle.rules.specs.Building.{seen, unseen}
-use Rattle.rules.specs.Demands.{FaceOf}
-use Rattle.points.specs.Whole.{PlaneNear}
-use Rattle.hull.specs.Inner.{in_front, Ready, PartOf}
-use Rattle.hull.specs.Whole.{read_at, PlanedAt, Planed}
-use Rattle.hull.proofs.WholeLaws.{read_is, planed_near, put_apart, put_planed, front_nowhere, front_at}
+use Rattle.points.specs.Whole.{Plane}
+use Rattle.hull.specs.Inner.{in_front, PartOf}
+use Rattle.hull.specs.Whole.{read_at, no_plane, PlanedAt, Planed}
+use Rattle.hull.proofs.WholeLaws.{read_is, put_apart, put_planed, front_nowhere, front_at}
 
 abbrev behind : List ℤ → Point → Face → Bool
 behind cs q f = not (in_front cs q f)
 
 -- what is read from the plane of a face of the table
-module _ {cs : List ℤ} {faces : List Face} {planes : List (List ℤ)} {j : ℕ} (e : PlanedAt cs faces planes j) where
-  pub front_read : (q : Point) → lt_z (read_at (get_or planes j []) q) (pos 0) ≡ in_front cs q (get_or faces j [])
-  front_read q = ap (λ (w : List ℤ). lt_z (read_at w q) (pos 0)) e.is ∙ ap (λ (z : ℤ). lt_z z (pos 0)) (read_is (touch cs) (get_or faces j []) q)
-
-face_of : {cs : List ℤ} (faces : List Face) (n : ℕ) {k : ℕ} → Ready cs (take n faces) k → n ≤ length faces → (j : ℕ) → j < n → FaceOf cs (get_or faces j [])
-face_of faces n r l j h = rw (← get_or-take n faces j [] h) (r.faces (get_or (take n faces) j []) (get_or_in (take n faces) j [] (omega (arith, length-take-le n faces l))))
-
-pub planes_near : {cs : List ℤ} {faces : List Face} {planes : List (List ℤ)} {n k : ℕ} → Planed cs n faces planes → Ready cs (take n faces) k → n ≤ length faces → n ≤ length planes → All PlaneNear (take n planes)
-planes_near {faces = faces} {planes = planes} {n = n} p r l b =
-    let s : length (take n planes) ≡ n = length-take-le n planes b in
-    All-from_get_or PlaneNear (take n planes) [] (λ j c. let h : j < n = omega arith in rw (get_or-take n planes j [] h) (planed_near (p.each j h) r.sound (face_of faces n r l j h)))
+module _ {cs : List ℤ} {faces : List Face} {planes : List Plane} {j : ℕ} (e : PlanedAt cs faces planes j) where
+  pub front_read : (q : Point) → lt_z (read_at (get_or planes j no_plane) q) (pos 0) ≡ in_front cs q (get_or faces j [])
+  front_read q = ap (λ (w : Plane). lt_z (read_at w q) (pos 0)) e.is ∙ ap (λ (z : ℤ). lt_z z (pos 0)) (read_is (touch cs) (get_or faces j []) q)
 
 -- after the first i of the faces from: m of them are in the table kept, with their planes, and s in the table front
-pub record Parting (cs : List ℤ) (q : Point) (n : ℕ) (from kept front : List Face) (planes : List (List ℤ)) (m s i : ℕ) : Type 0 where
+pub record Parting (cs : List ℤ) (q : Point) (n : ℕ) (from kept front : List Face) (planes : List Plane) (m s i : ℕ) : Type 0 where
   pub within : i ≤ n
   pub kept_long : length kept ≡ length from
   pub front_long : n ≤ length front
@@ -53,8 +41,8 @@ pub record Parting (cs : List ℤ) (q : Point) (n : ℕ) (from kept front : List
   pub rest : (j : ℕ) → i ≤ j → j < n → PlanedAt cs kept planes j
 
 -- the faces before the first that q is in front of are in their places
-module _ {cs : List ℤ} {n : ℕ} {from : List Face} {planes : List (List ℤ)} {i : ℕ} (a : n ≤ length from) (b : n ≤ length planes) (p : Planed cs n from planes) (w : i ≤ n)
-    (q : Point) (h : (j : ℕ) → j < i → lt_z (read_at (get_or planes j []) q) (pos 0) ≡ false) (front : List Face) (l : n ≤ length front) where
+module _ {cs : List ℤ} {n : ℕ} {from : List Face} {planes : List Plane} {i : ℕ} (a : n ≤ length from) (b : n ≤ length planes) (p : Planed cs n from planes) (w : i ≤ n)
+    (q : Point) (h : (j : ℕ) → j < i → lt_z (read_at (get_or planes j no_plane) q) (pos 0) ≡ false) (front : List Face) (l : n ≤ length front) where
   before : (j : ℕ) → j < i → in_front cs q (get_or from j []) ≡ false
   before j c = sym (front_read (p.each j (omega arith)) q) ∙ h j c
 
@@ -73,7 +61,7 @@ module _ {cs : List ℤ} {n : ℕ} {from : List Face} {planes : List (List ℤ)}
         rest = λ j c d. p.each j d;
       }
 
-module _ {cs : List ℤ} {q : Point} {n : ℕ} {from kept front : List Face} {planes : List (List ℤ)} {m s i : ℕ} (g : Parting cs q n from kept front planes m s i) where
+module _ {cs : List ℤ} {q : Point} {n : ℕ} {from kept front : List Face} {planes : List Plane} {m s i : ℕ} (g : Parting cs q n from kept front planes m s i) where
   kept_few : m ≤ i
   kept_few = omega (arith, g.stay.next, length_keep_take (behind cs q) from i)
 
@@ -82,9 +70,6 @@ module _ {cs : List ℤ} {q : Point} {n : ℕ} {from kept front : List Face} {pl
   next_face = laid_past g.stay i [] kept_few
 
   module _ (h : i < n) (e : n ≤ length from) where
-    pub parting_near : {k : ℕ} → Ready cs (take n from) k → PlaneNear (get_or planes i [])
-    parting_near r = planed_near (g.rest i (omega arith) h) r.sound (rw next_face (face_of from n r e i h))
-
     kept_place : m < length kept
     kept_place = omega (arith, kept_few, g.kept_long)
 
@@ -97,8 +82,8 @@ module _ {cs : List ℤ} {q : Point} {n : ℕ} {from kept front : List Face} {pl
     front_place : s < length front
     front_place = omega (arith, front_few, g.front_long)
 
-    parting_more : {kept' front' : List Face} {planes' : List (List ℤ)} {m' s' : ℕ} {x : Bool} → x ≡ lt_z (read_at (get_or planes i []) q) (pos 0)
-        → planes' ≡ lay m (only_if (not x) (get_or planes i [])) planes → length planes' ≡ length planes
+    parting_more : {kept' front' : List Face} {planes' : List Plane} {m' s' : ℕ} {x : Bool} → x ≡ lt_z (read_at (get_or planes i no_plane) q) (pos 0)
+        → planes' ≡ lay m (only_if (not x) (get_or planes i no_plane)) planes → length planes' ≡ length planes
         → Laid m (only_if (not x) (get_or kept i [])) kept m' kept' → length kept' ≡ length kept
         → Laid s (only_if x (get_or kept i [])) front s' front' → length front' ≡ length front → Parting cs q n from kept' front' planes' m' s' (i + 1)
     parting_more {kept'} {front'} {planes'} {m'} {s'} {x} t w d a c b z =
@@ -115,18 +100,18 @@ module _ {cs : List ℤ} {q : Point} {n : ℕ} {from kept front : List Face} {pl
           stay = laid_keep (behind cs q) from i [] (not x) (get_or kept i []) (omega arith) next_face (ap not v) g.stay a;
           gone = laid_take b (omega (arith, front_few, g.front_long)) ∙ ap (λ (l : List Face). l ++ only_if x (get_or kept i [])) g.gone ∙ more;
           count = b.next ∙ ap (λ (y : ℕ). y + length (only_if x (get_or kept i []))) g.count ∙ sym (length-append (keep (in_front cs q) (take i from)) (only_if x (get_or kept i []))) ∙ ap length more;
-          planed = rw (w, a.table, a.next) (put_planed (get_or kept i []) (get_or planes i []) kept_place planes_place o.is (not x) g.planed);
-          rest = λ j f y. rw (w, a.table) (put_apart (get_or kept i []) (get_or planes i []) kept_place planes_place (not x) (λ r. absurd (omega (arith, r, kept_few))) (g.rest j (omega arith) y));
+          planed = rw (w, a.table, a.next) (put_planed (get_or kept i []) (get_or planes i no_plane) kept_place planes_place o.is (not x) g.planed);
+          rest = λ j f y. rw (w, a.table) (put_apart (get_or kept i []) (get_or planes i no_plane) kept_place planes_place (not x) (λ r. absurd (omega (arith, r, kept_few))) (g.rest j (omega arith) y));
         }
 
     -- it goes to the faces seen
-    pub parting_seen : lt_z (read_at (get_or planes i []) q) (pos 0) ≡ true → Parting cs q n from kept (set front s (get_or kept i [])) planes m (s + 1) (i + 1)
+    pub parting_seen : lt_z (read_at (get_or planes i no_plane) q) (pos 0) ≡ true → Parting cs q n from kept (set front s (get_or kept i [])) planes m (s + 1) (i + 1)
     parting_seen t = parting_more (sym t) (sym (lay_none m planes)) refl (laid_none m kept) refl (laid_one s (get_or kept i []) front front_place) (length-set front s (get_or kept i []))
 
     -- or stays, with its plane
-    pub parting_kept : lt_z (read_at (get_or planes i []) q) (pos 0) ≡ false → Parting cs q n from (set kept m (get_or kept i [])) front (set planes m (get_or planes i [])) (m + 1) s (i + 1)
+    pub parting_kept : lt_z (read_at (get_or planes i no_plane) q) (pos 0) ≡ false → Parting cs q n from (set kept m (get_or kept i [])) front (set planes m (get_or planes i no_plane)) (m + 1) s (i + 1)
     parting_kept t =
-        parting_more (sym t) (sym (lay_one m (get_or planes i []) planes planes_place)) (length-set planes m (get_or planes i [])) (laid_one m (get_or kept i []) kept kept_place) (length-set kept m (get_or kept i [])) (laid_none s front) refl
+        parting_more (sym t) (sym (lay_one m (get_or planes i no_plane) planes planes_place)) (length-set planes m (get_or planes i no_plane)) (laid_one m (get_or kept i []) kept kept_place) (length-set kept m (get_or kept i [])) (laid_none s front) refl
 
   pub parting_all : {k : ℕ} → q ≡ touch cs k → n ≤ i → PartOf cs (take n from) k from m kept s front
   unfolding seen unseen visible
@@ -135,7 +120,7 @@ module _ {cs : List ℤ} {q : Point} {n : ℕ} {from kept front : List Face} {pl
       rw l (record { stay = rw e at g.stay; gone = rw e at g.gone; count = rw e at g.count })
 
 -- the first of them goes to the front, if there is one
-module _ {cs : List ℤ} (q : Point) {n : ℕ} {from : List Face} {planes : List (List ℤ)} (a : n ≤ length from) (b : n ≤ length planes) (p : Planed cs n from planes) (front : List Face) (l : n ≤ length front) where
+module _ {cs : List ℤ} (q : Point) {n : ℕ} {from : List Face} {planes : List Plane} (a : n ≤ length from) (b : n ≤ length planes) (p : Planed cs n from planes) (front : List Face) (l : n ≤ length front) where
   pub parting_first : {i : ℕ} → Some i ≡ position (λ w. lt_z (read_at w q) (pos 0)) (take n planes) → Parting cs q n from from (set front 0 (get_or from i [])) planes i 1 (i + 1)
   parting_first {i} e =
       let f = front_at planes q b e in

@@ -1,17 +1,18 @@
 -- The faces of a table as touch after touch is taken: they stay faces over the touches, and there is room for them.
-use mathlib.Core.Path.{◌≡◌, refl, sym, ap, subst, ◌∙◌}
+use mathlib.Core.Path.{◌≡◌, refl, sym, ap, ◌∙◌}
 use mathlib.Core.Bool.{true, false}
 use mathlib.Core.List.{List, []}
 use mathlib.Core.Option.{Option, none, some}
-use Prim.Native.Nat.{ℕ, zero, suc, ◌+◌, ◌-◌, ◌<◌, ◌≤◌}
+use Prim.Native.Nat.{ℕ, ◌+◌, ◌<◌, ◌≤◌}
 use native.Mathlib.Omega.{arith}
 use lib.IntN.{ℤ}
 use lib.ListN.{length, take, get_or}
 use lib.Seq.{get_or-take}
+use Rattle.std.specs.Prelude.{None}
 use Rattle.laws.specs.Lists.{In, Laid}
 use Rattle.laws.proofs.Members.{get_or_in}
 use Rattle.laws.proofs.Tables.{laid_first}
-use Rattle.touches.specs.Touches.{touch, touch_count, Sound}
+use Rattle.touches.specs.Touches.{touch, touch_count}
 use Rattle.rules.specs.Faces.{Face}
 use Rattle.rules.specs.Start.{start, corners, start_faces, is_start, Start as Four}
 use Rattle.rules.specs.Building.{step, build, after, others}
@@ -20,31 +21,30 @@ use Rattle.rules.proofs.Theorems.{start_order, steps_corners}
 use Rattle.rules.specs.Demands.{FaceOf}
 use Rattle.cover.specs.Room.{enough}
 use Rattle.cover.proofs.Theorems.{after_few}
-use Rattle.hull.specs.Start.{start_of, started_of, next_other, KnownStart}
+use Rattle.hull.specs.Start.{start_of, started_of, KnownStart}
 use Rattle.hull.specs.Build.{hull_of}
 use Rattle.hull.specs.Whole.{Planed}
 use Rattle.hull.specs.Inner.{Ready, Begun, Taken, Tables}
-use Rattle.hull.proofs.OtherLaws.{Next, next_first, next_after, next_within}
 use Rattle.border.specs.declared.marks.Marks.{Marks}
+use Rattle.points.specs.Whole.{Plane}
 use Rattle.hull.specs.declared.start.Start.{Start}
-use Rattle.hull.specs.declared.start.Started.TheVariants.{Flat, From}
 
 -- ---- the faces after the touches below k
 module _ {cs : List ℤ} {s : Four} (b : Begun cs s) {k : ℕ} (l : k ≤ touch_count cs) where
   after_faces : (f : Face) → In f (after (touch cs) s (others s k)) → FaceOf cs f
   after_faces = steps_corners (touch cs) (touch_count cs) b.begins (others s k) (others_upto s l)
 
-  after_room : length (after (touch cs) s (others s k)) ≤ enough (touch_count cs)
+  pub after_room : length (after (touch cs) s (others s k)) ≤ enough (touch_count cs)
   after_room = after_few (touch cs) (touch_count cs) b.begins (others s k) (others_upto s l)
 
 -- ---- a touch of the start
-taken_skip : {cs : List ℤ} {s : Four} {k m : ℕ} {table : List Face} {planes : List (List ℤ)} → Taken cs s k m table planes → is_start s k ≡ true → Taken cs s (k + 1) m table planes
+pub taken_skip : {cs : List ℤ} {s : Four} {k m : ℕ} {table : List Face} {planes : List Plane} → Taken cs s k m table planes → is_start s k ≡ true → Taken cs s (k + 1) m table planes
 taken_skip {cs} {s} {k} t e = let h = after_skip (touch cs) s k e in record { count = t.count ∙ ap length (sym h); faces = t.faces ∙ sym h; planed = t.planed }
 
 -- ---- one touch
-module _ {cs : List ℤ} {s : Four} {k m : ℕ} {table : List Face} {planes : List (List ℤ)} (t : Taken cs s k m table planes) where
+module _ {cs : List ℤ} {s : Four} {k m : ℕ} {table : List Face} {planes : List Plane} (t : Taken cs s k m table planes) where
   pub taken_ready : Begun cs s → {j : ℕ} → k ≤ touch_count cs → j < touch_count cs → Ready cs (take m table) j
-  taken_ready b l h = rw t.faces (record { sound = b.sound; faces = after_faces b l; touch = h })
+  taken_ready b l h = rw t.faces (record { faces = after_faces b l; touch = h })
 
   module _ (e : is_start s k ≡ false) where
     step_is : step (touch cs) (take m table) k ≡ after (touch cs) s (others s (k + 1))
@@ -53,69 +53,31 @@ module _ {cs : List ℤ} {s : Four} {k m : ℕ} {table : List Face} {planes : Li
     pub step_room : {seen : List Face} {marks : Marks} → Begun cs s → k < touch_count cs → Tables cs table planes seen marks → length (step (touch cs) (take m table) k) ≤ length table
     step_room b l w = omega (arith, ap length step_is, after_room b {k = k + 1} (omega arith), w.room)
 
-    pub taken_step : {r : ℕ} {next : List Face} {beside : List (List ℤ)} → Laid 0 (step (touch cs) (take m table) k) table r next → Planed cs r next beside → Taken cs s (k + 1) r next beside
+    pub taken_step : {r : ℕ} {next : List Face} {beside : List Plane} → Laid 0 (step (touch cs) (take m table) k) table r next → Planed cs r next beside → Taken cs s (k + 1) r next beside
     taken_step g p = record { count = omega (arith, g.next) ∙ ap length step_is; faces = laid_first g ∙ step_is; planed = p }
 
-  -- the touches from k on up to the next one that is not of the start
-  taken_run : (d : ℕ) → ((j : ℕ) → k ≤ j → j < k + d → is_start s j ≡ true) → Taken cs s (k + d) m table planes
-  taken_run zero f = let e : k ≡ k + 0 = omega arith in subst (λ (i : ℕ). Taken cs s i m table planes) e t
-  taken_run (suc d) f =
-      let e : k + d + 1 ≡ k + suc d = omega arith in
-      subst (λ (i : ℕ). Taken cs s i m table planes) e (taken_skip (taken_run d (λ j a l. f j a (omega arith))) (f (k + d) (omega arith) (omega arith)))
-
-  pub taken_next : {r : ℕ} → Next s k r → Taken cs s r m table planes
-  taken_next {r} o =
-      let e : k + (r - k) ≡ r = omega (arith, o.skips.from) in
-      subst (λ (i : ℕ). Taken cs s i m table planes) e (taken_run (r - k) (λ j a l. o.skips.skipped j a (omega (arith, e))))
-
-  -- none is left below n
-  pub taken_all : {n : ℕ} → k ≤ n → n ≤ k → Taken cs s n m table planes
-  taken_all {n} l h = let e : k ≡ n = omega arith in subst (λ (i : ℕ). Taken cs s i m table planes) e t
-
--- the next touch that is not of the start
-module _ {cs : List ℤ} {s : Four} (b : Begun cs s) where
-  pub begun_first : {r : ℕ} → r ≡ next_other s 1 → Next s 0 r
-  begun_first e = let o = start_order (touch cs) (touch_count cs) b.begins in rw e (next_first s (omega (arith, o)) (omega (arith, o)) (omega (arith, o)) (omega (arith, o)))
-
-  pub begun_next : (k : ℕ) {r : ℕ} → r ≡ next_other s (k + 1) → Next s (k + 1) r
-  begun_next k e = let o = start_order (touch cs) (touch_count cs) b.begins in rw e (next_after s (omega (arith, o)) (omega (arith, o)) (omega (arith, o)) {k = k + 1} (omega (arith, o)))
-
-  pub begun_within : {k r : ℕ} → Next s k r → k ≤ touch_count cs → r ≤ touch_count cs
-  begun_within h l = let o = start_order (touch cs) (touch_count cs) b.begins in next_within s (omega (arith, o)) (omega (arith, o)) (omega (arith, o)) (omega (arith, o)) h l
-
 -- tables that building works in have room for the faces that are taken
-pub taken_room : {cs : List ℤ} {s : Four} {k m : ℕ} {table after seen : List Face} {planes beside : List (List ℤ)} {marks : Marks} → Begun cs s → Tables cs table planes seen marks → Taken cs s k m after beside → k ≤ touch_count cs → m ≤ length table
+pub taken_room : {cs : List ℤ} {s : Four} {k m : ℕ} {table after seen : List Face} {planes beside : List Plane} {marks : Marks} → Begun cs s → Tables cs table planes seen marks → Taken cs s k m after beside → k ≤ touch_count cs → m ≤ length table
 taken_room b w t l = omega (arith, t.count, after_room b l, w.room)
 
 -- the tables keep their lengths
-pub tables_kept : {cs : List ℤ} {table table' seen seen' : List Face} {planes planes' : List (List ℤ)} {marks marks' : Marks} → Tables cs table planes seen marks
+pub tables_kept : {cs : List ℤ} {table table' seen seen' : List Face} {planes planes' : List Plane} {marks marks' : Marks} → Tables cs table planes seen marks
     → length table' ≡ length table → length planes' ≡ length planes → length seen' ≡ length seen → marks'.width ≡ marks.width → Tables cs table' planes' seen' marks'
 tables_kept t a b c d = record { room = omega (arith, t.room, a); planes_long = omega (arith, t.planes_long, a, b); seen_long = omega (arith, t.seen_long, a, c); mark_width = d ∙ t.mark_width }
 
 -- ---- the start
-start_some : (o : Option Four) {f : Start} → From f ≡ started_of o → o ≡ some (start_of f)
-start_some none e = cc
-start_some (some s) {f} e = ap some (ap start_of (sym g))
-  where
-    g : f ≡ record { p = record { 0 = s.P }; q = record { 0 = s.Q }; r = record { 0 = s.R }; s = record { 0 = s.S } }
-    g = cc
-
-start_none : (o : Option Four) → Flat ≡ started_of o → o ≡ none
+start_none : (o : Option Four) → None ≡ started_of o → o ≡ none
 start_none none e = refl
 start_none (some s) e = cc
 
 module _ (cs : List ℤ) {n : ℕ} (c : n ≡ touch_count cs) where
-  pub hull_flat : Flat ≡ started_of (start (touch cs) n) → hull_of cs ≡ none
+  pub hull_flat : None ≡ started_of (start (touch cs) n) → hull_of cs ≡ none
   hull_flat e = hull_none (touch cs) (touch_count cs) (rw c at (start_none (start (touch cs) n) e))
-
-  module _ (d : Sound cs) (f : Start) (e : From f ≡ started_of (start (touch cs) n)) where
-    pub begun : Begun cs (start_of f)
-    begun = record { sound = d; begins = rw c at (start_some (start (touch cs) n) e) }
 
 pub known_start : {cs : List ℤ} (f : Start) → Begun cs (start_of f) → KnownStart (touch_count cs) f
 known_start {cs} f b = let o = start_order (touch cs) (touch_count cs) b.begins in record { p = omega (arith, o); q = omega (arith, o); r = omega (arith, o); s = omega (arith, o) }
 
-pub start_room : {cs : List ℤ} {s : Four} {table seen : List Face} {planes : List (List ℤ)} {marks : Marks} → Begun cs s → Tables cs table planes seen marks → 4 ≤ length table
+pub start_room : {cs : List ℤ} {s : Four} {table seen : List Face} {planes : List Plane} {marks : Marks} → Begun cs s → Tables cs table planes seen marks → 4 ≤ length table
 unfolding build
 start_room b w = omega (arith, after_room b {k = 0} (omega arith), w.room)
 
@@ -124,6 +86,6 @@ pub start_faces_lem : {cs : List ℤ} {s : Four} {m : ℕ} {old table : List Fac
 unfolding build
 start_faces_lem {cs} {s} {m} {old} {table} b g j h = rw (← get_or-take m table j [] h, laid_first g) (after_faces b {k = 0} (omega arith) (get_or (start_faces (corners (touch cs) s)) j []) (get_or_in (start_faces (corners (touch cs) s)) j [] (omega (arith, g.next))))
 
-pub taken_start : {cs : List ℤ} {s : Four} {m : ℕ} {old table : List Face} {planes : List (List ℤ)} → Laid 0 (start_faces (corners (touch cs) s)) old m table → Planed cs m table planes → Taken cs s 0 m table planes
+pub taken_start : {cs : List ℤ} {s : Four} {m : ℕ} {old table : List Face} {planes : List Plane} → Laid 0 (start_faces (corners (touch cs) s)) old m table → Planed cs m table planes → Taken cs s 0 m table planes
 unfolding build
 taken_start g p = record { count = omega (arith, g.next); faces = laid_first g; planed = p }

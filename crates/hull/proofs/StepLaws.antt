@@ -16,7 +16,7 @@ use Rattle.rules.specs.Building.{cone, seen, unseen, step}
 use Rattle.rules.specs.Demands.{CornersIn, FaceOf}
 use Rattle.rules.proofs.FaceLaws.{corners_map}
 use Rattle.rules.proofs.StepLaws.{step_corners}
-use Rattle.points.specs.Whole.{plane_on}
+use Rattle.points.specs.Whole.{Plane, plane_on}
 use Rattle.hull.specs.Whole.{Planed}
 use Rattle.hull.specs.Inner.{Ready, PartOf}
 
@@ -52,5 +52,5 @@ step_faces {cs} {h} {k} {r} {old} {after} d g j l =
     rw (← get_or-take r after j [] l, laid_first g) (step_corners (touch cs) h k d.faces d.touch (get_or (step (touch cs) h k) j []) (get_or_in (step (touch cs) h k) j [] (omega (arith, g.next))))
 
 -- the planes of the faces before the place that was laid at are theirs still
-pub planed_before : {cs : List ℤ} {m r : ℕ} {new mid after : List Face} {planes : List (List ℤ)} → Planed cs m mid planes → Laid m new mid r after → m ≤ length mid → Planed cs m after planes
+pub planed_before : {cs : List ℤ} {m r : ℕ} {new mid after : List Face} {planes : List Plane} → Planed cs m mid planes → Laid m new mid r after → m ≤ length mid → Planed cs m after planes
 planed_before {cs} p g b = record { each = λ j l. record { is = (p.each j l).is ∙ ap (plane_on (touch cs)) (sym (laid_before g b j [] l)) } }

@@ -1,9 +1,9 @@
 -- V read from a face's plane, and planes put beside their faces one after another.
-use mathlib.Core.Path.{◌≡◌, sym, ap, subst, ◌∙◌}
+use mathlib.Core.Path.{◌≡◌, sym, ap, ◌∙◌}
 use mathlib.Core.Logic.{◌⊎◌, inl, inr, ◌≢◌}
 use mathlib.Core.Bool.{Bool, true, false}
 use mathlib.Core.List.{List, []}
-use Prim.Native.Nat.{ℕ, ◌+◌, ◌*◌, ◌<◌, ◌≤◌}
+use Prim.Native.Nat.{ℕ, ◌+◌, ◌<◌, ◌≤◌}
 use native.Mathlib.Omega.{arith}
 use lib.IntN.{ℤ, pos}
 use lib.ListN.{length, take, get_or}
@@ -13,47 +13,34 @@ use Rattle.std.specs.Prelude.{Some, None, position}
 use Rattle.std.proofs.lemmas.List.Sums.{fails_before_first}
 use Rattle.std.proofs.lemmas.List.Quantifiers.{position-Some}
 use Rattle.std.proofs.lemmas.Grind.{common_steps}
-use Rattle.laws.specs.Numbers.{Within}
 use Rattle.laws.specs.Lists.{only_if, lay}
 use Rattle.laws.proofs.Tests.{same_or}
 use Rattle.laws.proofs.Tables.{lay_none, lay_one, length_only}
 use Rattle.touches.specs.declared.Point.{Point}
-use Rattle.touches.specs.Touches.{touch, Sound, Near}
-use Rattle.touches.proofs.SoundLaws.{touch_near}
-use Rattle.volume.specs.Volume.{most_volume}
-use Rattle.volume.proofs.VolumeLaws.{vol_within}
+use Rattle.touches.specs.Touches.{touch}
 use Rattle.volume.proofs.PlaneLaws.{plane_vol}
 use Rattle.rules.specs.Faces.{Face, Places, corner, face_vol}
-use Rattle.rules.specs.Demands.{FaceOf}
 use Rattle.points.specs.Sizes.{Number}
-use Rattle.points.specs.Whole.{plane_on, PlaneNear}
-use Rattle.points.proofs.PlaneLaws.{plane_near}
-use Rattle.hull.specs.Whole.{read_at, PlanedAt, Planed}
+use Rattle.points.specs.Whole.{Plane, plane_on}
+use Rattle.hull.specs.Whole.{read_at, no_plane, PlanedAt, Planed}
 
 pub read_is : (p : Places) (f : Face) (q : Point) → read_at (plane_on p f) q ≡ face_vol p f q
 unfolding face_vol
 read_is p f q = sym (plane_vol (p (corner f 0)) (p (corner f 1)) (p (corner f 2)) q)
 
 -- of a plane of a table
-module _ {cs : List ℤ} {faces : List Face} {planes : List (List ℤ)} {j : ℕ} (e : PlanedAt cs faces planes j) (s : Sound cs) (o : FaceOf cs (get_or faces j [])) where
-  pub planed_near : PlaneNear (get_or planes j [])
-  planed_near = rw e.is (plane_near {f = get_or faces j []} s o)
-
-  pub planed_number : {q : Point} {r : ℤ} → Near q → Number (2 * most_volume) (read_at (get_or planes j []) q) r → Number most_volume (face_vol (touch cs) (get_or faces j []) q) r
-  unfolding face_vol
-  planed_number {q} {r} h n =
-      let f = get_or faces j [] in
-      let v : r ≡ face_vol (touch cs) f q = n.is ∙ ap (λ (w : List ℤ). read_at w q) e.is ∙ read_is (touch cs) f q in
-      record { is = v; small = subst (Within most_volume) (sym v) (vol_within (touch_near s (corner f 0) o.a) (touch_near s (corner f 1) o.b) (touch_near s (corner f 2) o.c) h) }
+pub planed_number : {cs : List ℤ} {faces : List Face} {planes : List Plane} {j B : ℕ} (q : Point) {r : ℤ} → PlanedAt cs faces planes j
+    → Number B (read_at (get_or planes j no_plane) q) r → Number B (face_vol (touch cs) (get_or faces j []) q) r
+planed_number {cs} {faces} {j = j} q e n = record { is = n.is ∙ ap (λ (w : Plane). read_at w q) e.is ∙ read_is (touch cs) (get_or faces j []) q; small = n.small }
 
 -- ---- a plane stored at place i
-pub planed_none : (cs : List ℤ) (faces : List Face) (planes : List (List ℤ)) → Planed cs 0 faces planes
+pub planed_none : (cs : List ℤ) (faces : List Face) (planes : List Plane) → Planed cs 0 faces planes
 planed_none cs faces planes = record { each = λ j h. absurd (omega arith) }
 
 -- a face and its plane put at place m, where y holds
-module _ {cs : List ℤ} {faces : List Face} {planes : List (List ℤ)} {m : ℕ} (f : Face) (w : List ℤ) (a : m < length faces) (b : m < length planes) where
+module _ {cs : List ℤ} {faces : List Face} {planes : List Plane} {m : ℕ} (f : Face) (w : Plane) (a : m < length faces) (b : m < length planes) where
   pub put_apart : (y : Bool) {j : ℕ} → j ≢ m → PlanedAt cs faces planes j → PlanedAt cs (lay m (only_if y f) faces) (lay m (only_if y w) planes) j
-  put_apart true {j} d h = record { is = rw (lay_one m f faces a, lay_one m w planes b) (get_or-set_other planes m j w [] d ∙ h.is ∙ ap (plane_on (touch cs)) (sym (get_or-set_other faces m j f [] d))) }
+  put_apart true {j} d h = record { is = rw (lay_one m f faces a, lay_one m w planes b) (get_or-set_other planes m j w no_plane d ∙ h.is ∙ ap (plane_on (touch cs)) (sym (get_or-set_other faces m j f [] d))) }
   put_apart false d h = rw (lay_none m faces, lay_none m planes) h
 
   module _ (e : w ≡ plane_on (touch cs) f) where
@@ -61,26 +48,26 @@ module _ {cs : List ℤ} {faces : List Face} {planes : List (List ℤ)} {m : ℕ
     put_planed y h = record { each = λ j l. go y j l (same_or j m) }
       where
         go : (y : Bool) (j : ℕ) → j < m + length (only_if y f) → (j ≡ m) ⊎ (j ≢ m) → PlanedAt cs (lay m (only_if y f) faces) (lay m (only_if y w) planes) j
-        go true j l (inl s) = record { is = rw (s, lay_one m f faces a, lay_one m w planes b) (get_or-set_same planes m w [] b ∙ e ∙ ap (plane_on (touch cs)) (sym (get_or-set_same faces m f [] a))) }
+        go true j l (inl s) = record { is = rw (s, lay_one m f faces a, lay_one m w planes b) (get_or-set_same planes m w no_plane b ∙ e ∙ ap (plane_on (touch cs)) (sym (get_or-set_same faces m f [] a))) }
         go false j l (inl s) = absurd (omega arith)
         go y j l (inr d) = put_apart y d (h.each j (omega (arith, length_only y f)))
 
 -- ---- the search for the first face that q is in front of, among n
-abbrev fronts : Point → List ℤ → Bool
+abbrev fronts : Point → Plane → Bool
 fronts q w = lt_z (read_at w q) (pos 0)
 
-module _ (planes : List (List ℤ)) (q : Point) {n : ℕ} (l : n ≤ length planes) where
-  back : (b : Bool) (j : ℕ) → j < n → fronts q (get_or (take n planes) j []) ≡ b → fronts q (get_or planes j []) ≡ b
-  back b j h e = rw (get_or-take n planes j [] h) at e
+module _ (planes : List Plane) (q : Point) {n : ℕ} (l : n ≤ length planes) where
+  back : (b : Bool) (j : ℕ) → j < n → fronts q (get_or (take n planes) j no_plane) ≡ b → fronts q (get_or planes j no_plane) ≡ b
+  back b j h e = rw (get_or-take n planes j no_plane h) at e
 
-  pub front_nowhere : None ≡ position (fronts q) (take n planes) → (j : ℕ) → j < n → fronts q (get_or planes j []) ≡ false
+  pub front_nowhere : None ≡ position (fronts q) (take n planes) → (j : ℕ) → j < n → fronts q (get_or planes j no_plane) ≡ false
   front_nowhere e j h =
       let s : length (take n planes) ≡ n = length-take-le n planes l in
-      back false j h (fails_before_first (fronts q) (take n planes) j [] (grind (arith, common_steps)))
+      back false j h (fails_before_first (fronts q) (take n planes) j no_plane (grind (arith, common_steps)))
 
-  pub front_at : {i : ℕ} → Some i ≡ position (fronts q) (take n planes) → (i < n) × (fronts q (get_or planes i []) ≡ true) × ((j : ℕ) → j < i → fronts q (get_or planes j []) ≡ false)
+  pub front_at : {i : ℕ} → Some i ≡ position (fronts q) (take n planes) → (i < n) × (fronts q (get_or planes i no_plane) ≡ true) × ((j : ℕ) → j < i → fronts q (get_or planes j no_plane) ≡ false)
   front_at {i} e =
       let s : length (take n planes) ≡ n = length-take-le n planes l in
-      let f = position-Some (fronts q) (take n planes) i [] (sym e) in
+      let f = position-Some (fronts q) (take n planes) i no_plane (sym e) in
       let h : i < n = omega (arith, f.0) in
       (h, back true i h f.1, λ j b. back false j (omega arith) (f.2 j b))

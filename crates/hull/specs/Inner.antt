@@ -9,7 +9,7 @@ use Rattle.laws.specs.Lists.{In, Laid}
 use Rattle.touches.specs.declared.refusal.Refusal.TheVariants.{PlaceInNoTriangle}
 use Rattle.touches.specs.declared.Point.{Point}
 use Rattle.touches.specs.declared.FaceNo.{FaceNo}
-use Rattle.touches.specs.Touches.{touch_count, touch, Sound}
+use Rattle.touches.specs.Touches.{touch_count, touch}
 use Rattle.touches.specs.Check.{pick}
 use Rattle.rules.specs.Faces.{Face, face_vol}
 use Rattle.rules.specs.Start.{Start, start}
@@ -30,9 +30,8 @@ use Rattle.hull.specs.declared.place.Placed.TheVariants.{Outside, On, Inside}
 abbrev pub in_front : List ℤ → Point → Face → Bool
 in_front cs q f = lt_z (face_vol (touch cs) f q) (pos 0)
 
--- coordinates that passed refusals 1 to 3, faces over them and one of their touches
+-- faces over the touches and one of the touches
 pub record Ready (cs : List ℤ) (h : List Face) (k : ℕ) : Type 0 where
-  pub sound : Sound cs
   pub faces : (f : Face) → In f h → FaceOf cs f
   pub touch : k < touch_count cs
 
@@ -42,9 +41,8 @@ pub record PartOf (cs : List ℤ) (h : List Face) (k : ℕ) (old : List Face) (m
   pub gone : take s front ≡ seen (touch cs) h k
   pub count : s ≡ length (seen (touch cs) h k)
 
--- the start of coordinates that passed refusals 1 to 3
+-- s is the start of the touches
 pub record Begun (cs : List ℤ) (s : Start) : Type 0 where
-  pub sound : Sound cs
   pub begins : start (touch cs) (touch_count cs) ≡ some s
 
 -- the first m faces of a table are those after the start s and the other touches below k, and have their planes

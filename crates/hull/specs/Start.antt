@@ -1,49 +1,35 @@
 -- The search for the start, as the inner steps' contracts cite it.
-use Rattle.std.specs.Prelude.{Bool, not, cond, ℕ, ◌+◌, ◌<◌, eqb, ltb}
-use Rattle.std.proofs.Math.Option.{Option, none, some}
+use Rattle.std.specs.Prelude.{Bool, not, ℕ, ◌<◌, Option, None, Some}
+use Rattle.std.proofs.Math.Option.{Option as Maybe, none, some}
+use Rattle.touches.specs.declared.TouchNo.{TouchNo}
 use Rattle.touches.specs.Touches.{touch_no}
 use Rattle.volume.specs.Volume.{Vol, in_line, is_zero}
 use Rattle.rules.specs.Faces.{Places}
 use Rattle.rules.specs.Start.{same_place, Start as Four}
-use Rattle.hull.specs.declared.start.Sought.{Sought}
-use Rattle.hull.specs.declared.start.Sought.TheVariants.{Apart, OffLine, OffPlane}
-use Rattle.hull.specs.declared.start.Found.{Found}
-use Rattle.hull.specs.declared.start.Found.TheVariants.{Nowhere, At}
 use Rattle.hull.specs.declared.start.Start.{Start}
-use Rattle.hull.specs.declared.start.Started.{Started}
-use Rattle.hull.specs.declared.start.Started.TheVariants.{Flat, From}
 
--- the test of the rule for Q, R and S, P being touch 0
-abbrev pub suits : Places → Sought → ℕ → Bool
-suits p Apart k = not (same_place (p 0) (p k))
-suits p (OffLine q) k = not (in_line (p 0) (p q.0) (p k))
-suits p (OffPlane q r) k = not (is_zero (Vol (p 0) (p q.0) (p r.0) (p k)))
+-- the tests of the rule for Q, R and S, P being touch 0
+abbrev pub is_apart : Places → ℕ → Bool
+is_apart p k = not (same_place (p 0) (p k))
 
--- what is looked for names only touches below n
-abbrev pub Known : ℕ → Sought → Type 0
-Known n Apart = Unit {0}
-Known n (OffLine q) = q.0 < n
-Known n (OffPlane q r) = (q.0 < n) × (r.0 < n)
+abbrev pub is_off_line : Places → ℕ → ℕ → Bool
+is_off_line p q k = not (in_line (p 0) (p q) (p k))
 
-abbrev pub found_of : Option ℕ → Found
-found_of none = Nowhere
-found_of (some k) = At (touch_no k)
+abbrev pub is_off_plane : Places → ℕ → ℕ → ℕ → Bool
+is_off_plane p q r k = not (is_zero (Vol (p 0) (p q) (p r) (p k)))
+
+-- the rule's answer as the code holds it
+abbrev pub found_of : Maybe ℕ → Option TouchNo
+found_of none = None
+found_of (some k) = Some (touch_no k)
 
 -- the rule's P, Q, R, S as the code holds them, and back
-abbrev pub started_of : Option Four → Started
-started_of none = Flat
-started_of (some s) = From (record { p = touch_no s.P; q = touch_no s.Q; r = touch_no s.R; s = touch_no s.S })
+abbrev pub started_of : Maybe Four → Option Start
+started_of none = None
+started_of (some s) = Some (record { p = touch_no s.P; q = touch_no s.Q; r = touch_no s.R; s = touch_no s.S })
 
 abbrev pub start_of : Start → Four
 start_of s = record { P = s.p.0; Q = s.q.0; R = s.r.0; S = s.s.0 }
-
--- number k, or the next one where k is t
-abbrev pub past : ℕ → ℕ → ℕ
-past k t = cond (eqb k t) (k + 1) k
-
--- the first number from k on that is not of the start: P is 0 and below k, and Q, R and S rise
-abbrev pub next_other : Four → ℕ → ℕ
-next_other s k = cond (ltb s.S k) k (past (past (past k s.Q) s.R) s.S)
 
 -- all four are below n
 pub record KnownStart (n : ℕ) (f : Start) : Type 0 where

@@ -1,32 +1,34 @@
 // The hull of a touch list, into a lent face table.
-ghost use Rattle.std.specs.Prelude.{◌≡◌, ◌≤◌, length};
+ghost use Rattle.std.specs.Prelude.{◌≡◌, ◌<◌, ◌≤◌, length};
 ghost use Rattle.std.proofs.Math.Option.{some};
 ghost use Rattle.touches.specs.Limits.{most_faces};
-ghost use Rattle.touches.specs.Touches.{touch, touch_count, Sound};
+ghost use Rattle.touches.specs.Touches.{touch, touch_count};
 ghost use Rattle.rules.specs.Building.{volume};
 ghost use Rattle.hull.specs.Whole.{Planed};
-ghost use Rattle.hull.specs.Inner.{Ready, Builds};
+ghost use Rattle.hull.specs.Inner.{Builds};
 ghost use Rattle.hull.specs.Build.{hull_of, built, table_after};
 
 use crate::rooms::build_from;
-use crate::start::{Started, find_start};
+use crate::start::find_start;
 use crate::whole::read;
 use points::touch::touch;
-use touches::{Checked, Refusal, TouchNo};
+use points::whole::WholePlane;
+use touches::{Refusal, TouchList, TouchNo};
 
+// The hull of a touch list: how many faces it has, and six times its volume.
 #[derive(Clone, Copy)]
-pub enum Built {
-    Hull(u16, i64),
-    Refused(Refusal),
+pub struct Hull {
+    pub faces: u16,
+    pub volume: i64,
 }
 
 // The sum of V(face, touch 0).
-fn six_volume(coords: &[i32], hull: &[[u16; 3]], planes: &[[i64; 4]]) -> i64
-    requires { Ready coords.now hull.now 0 × Planed coords.now (length hull.now) hull.now planes.now
+fn six_volume(list: &TouchList<'_>, hull: &[[u16; 3]], planes: &[WholePlane]) -> i64
+    requires { (0 < touch_count list.now) × Planed list.now (length hull.now) hull.now planes.now
         × (length hull.now ≤ length planes.now) × (length hull.now ≤ most_faces) }
-    ensures { result ≡ volume (touch coords.now) hull.now }
+    ensures { result ≡ volume (touch list.now) hull.now }
 {
-    let q = touch(coords, TouchNo(0));
+    let q = touch(list, TouchNo(0));
     let mut sum: i64 = 0;
     for &p in &planes[..hull.len()] {
         sum += read(p, q);
@@ -37,38 +39,29 @@ fn six_volume(coords: &[i32], hull: &[[u16; 3]], planes: &[[i64; 4]]) -> i64
 // The hull into the lent table, or refusal 5.
 pub(crate) fn write_hull(
     faces: &mut [u16],
-    coords: &[i32],
+    list: &TouchList<'_>,
     hull: &[[u16; 3]],
-    planes: &[[i64; 4]],
-) -> Built
-    requires { Ready coords.now hull.now 0 × Planed coords.now (length hull.now) hull.now planes.now
+    planes: &[WholePlane],
+) -> Result<Hull, Refusal>
+    requires { (0 < touch_count list.now) × Planed list.now (length hull.now) hull.now planes.now
         × (length hull.now ≤ length planes.now) × (length hull.now ≤ most_faces) }
-    ensures { Builds coords.now (some hull.now) faces.old result faces.new }
+    ensures { Builds list.now (some hull.now) faces.old result faces.new }
 {
     if !table::put_faces(faces, hull) {
-        return Built::Refused(Refusal::because(Refusal::FACE_TABLE_TOO_SMALL));
+        return Err(Refusal::FaceTableTooSmall);
     }
-    Built::Hull(hull.len() as u16, six_volume(coords, hull, planes))
-}
-
-// Building on coordinates of n touches that passed refusals 1 to 3: refusals 4, 5.
-fn build_checked(faces: &mut [u16], coords: &[i32], n: usize) -> Built
-    requires { Sound coords.now × (n ≡ touch_count coords.now) }
-    ensures { Builds coords.now (hull_of coords.now) faces.old result faces.new }
-{
-    match find_start(coords, n) {
-        Started::Flat => Built::Refused(Refusal::because(Refusal::ALL_TOUCHES_ON_ONE_PLANE)),
-        Started::From(s) => build_from(faces, coords, s),
-    }
+    Ok(Hull {
+        faces: hull.len() as u16,
+        volume: six_volume(list, hull, planes),
+    })
 }
 
 // Refusals 1, 2, 3, 4, 5. A refusal changes nothing.
-pub fn build(coords: &[i32], faces: &mut [u16]) -> Built
+pub fn build(coords: &[i32], faces: &mut [u16]) -> Result<Hull, Refusal>
     ensures answer { result ≡ built coords.now faces.old }
     ensures table { faces.new ≡ table_after result (hull_of coords.now) faces.old }
 {
-    match touches::check(coords) {
-        Checked::Refused(r) => Built::Refused(r),
-        Checked::Accepted(list) => build_checked(faces, coords, list.count),
-    }
+    let list = touches::check(coords)?;
+    let s = find_start(&list).ok_or(Refusal::AllTouchesOnOnePlane)?;
+    build_from(faces, &list, s)
 }

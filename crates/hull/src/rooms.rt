@@ -1,84 +1,63 @@
 // The tables that building works in: n touches give at most 2n − 4 faces after every step (`cover` FewFaces), so none is ever full.
-ghost use Rattle.border.specs.Marks.{Fresh};
+ghost use Rattle.std.specs.Prelude.{◌*◌, ◌^◌, ◌<◌, ◌≤◌};
+ghost use Rattle.touches.specs.Touches.{touch_count};
+ghost use Rattle.cover.specs.Room.{enough};
 ghost use Rattle.hull.specs.Start.{start_of};
 ghost use Rattle.hull.specs.Build.{hull_of};
-ghost use Rattle.hull.specs.Inner.{Begun, Tables, Builds};
+ghost use Rattle.hull.specs.Inner.{Begun, Builds};
 
-use crate::build::{Built, write_hull};
+use crate::build::{Hull, write_hull};
 use crate::raise::raise;
 use crate::start::Start;
 use border::Marks;
-use touches::TouchList;
+use points::whole::WholePlane;
+use touches::{Point, Refusal, TouchList};
 
 // How many touches the small tables are for. A table is filled before it is used, and these are a twentieth of the large ones.
 const FEW: usize = 8;
 
 const FEW_FACES: usize = 2 * FEW - 4;
 
+const FEW_MARKS: usize = FEW * FEW;
+
+const ALL_FACES: usize = TouchList::ENOUGH_FACES;
+
+const ALL_MARKS: usize = TouchList::MOST * TouchList::MOST;
+
 // What the tables of planes and of marks start with. Zeros would be cleared by a call that emulators run byte by byte.
-const NO_PLANE: [i64; 4] = [0, 0, 0, 1];
+const NO_PLANE: WholePlane = WholePlane {
+    normal: Point { x: 0, y: 0, z: 0 },
+    offset: 1,
+};
 
 const NO_MARK: u16 = 1;
 
-// In the tables that are given.
-fn build_in(
+// In tables for FACES faces and MARKS marks. The bounds on these two numbers keep the sizes of the tables in range.
+fn build_in<const FACES: usize, const MARKS: usize>(
     faces: &mut [u16],
-    table: &mut [[u16; 3]],
-    planes: &mut [[i64; 4]],
-    seen: &mut [[u16; 3]],
-    marks: &mut Marks,
-    coords: &[i32],
+    list: &TouchList<'_>,
     s: Start,
-) -> Built
-    requires { Begun coords.now (start_of s) × Tables coords.now table.old planes.old seen.old marks.old
-        × Fresh 0 marks.old.table.now }
-    ensures { Builds coords.now (hull_of coords.now) faces.old result faces.new }
+) -> Result<Hull, Refusal>
+    requires { Begun list.now (start_of s) × (enough (touch_count list.now) ≤ FACES)
+        × (touch_count list.now * touch_count list.now ≤ MARKS) × (FACES < 2 ^ 32) × (MARKS < 2 ^ 32) }
+    ensures { Builds list.now (hull_of list.now) faces.old result faces.new }
 {
-    let m = raise(table, planes, seen, marks, coords, s);
-    write_hull(faces, coords, &table[..m], planes)
-}
-
-// In tables for as many touches as there can be.
-fn build_many(faces: &mut [u16], coords: &[i32], s: Start) -> Built
-    requires { Begun coords.now (start_of s) }
-    ensures { Builds coords.now (hull_of coords.now) faces.old result faces.new }
-{
-    let mut table = [[0u16; 3]; TouchList::ENOUGH_FACES];
-    let mut planes = [NO_PLANE; TouchList::ENOUGH_FACES];
-    let mut seen = [[0u16; 3]; TouchList::ENOUGH_FACES];
-    let mut room = [NO_MARK; TouchList::MOST * TouchList::MOST];
-    let mut marks = Marks::new(&mut room, coords.len() / 3);
-    build_in(
-        faces,
-        &mut table,
-        &mut planes,
-        &mut seen,
-        &mut marks,
-        coords,
-        s,
-    )
+    let mut table = [[0u16; 3]; FACES];
+    let mut planes = [NO_PLANE; FACES];
+    let mut seen = [[0u16; 3]; FACES];
+    let mut room = [NO_MARK; MARKS];
+    let mut marks = Marks::new(&mut room, list.count());
+    let m = raise(&mut table, &mut planes, &mut seen, &mut marks, list, s);
+    write_hull(faces, list, &table[..m], &planes)
 }
 
 // Building from the start: for a few touches in small tables.
-pub(crate) fn build_from(faces: &mut [u16], coords: &[i32], s: Start) -> Built
-    requires { Begun coords.now (start_of s) }
-    ensures { Builds coords.now (hull_of coords.now) faces.old result faces.new }
+pub(crate) fn build_from(faces: &mut [u16], list: &TouchList<'_>, s: Start) -> Result<Hull, Refusal>
+    requires { Begun list.now (start_of s) }
+    ensures { Builds list.now (hull_of list.now) faces.old result faces.new }
 {
-    if FEW < coords.len() / 3 {
-        return build_many(faces, coords, s);
+    if FEW < list.count() {
+        return build_in::<ALL_FACES, ALL_MARKS>(faces, list, s);
     }
-    let mut table = [[0u16; 3]; FEW_FACES];
-    let mut planes = [NO_PLANE; FEW_FACES];
-    let mut seen = [[0u16; 3]; FEW_FACES];
-    let mut room = [NO_MARK; FEW * FEW];
-    let mut marks = Marks::new(&mut room, coords.len() / 3);
-    build_in(
-        faces,
-        &mut table,
-        &mut planes,
-        &mut seen,
-        &mut marks,
-        coords,
-        s,
-    )
+    build_in::<FEW_FACES, FEW_MARKS>(faces, list, s)
 }

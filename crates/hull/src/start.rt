@@ -1,32 +1,19 @@
 // The start: P, Q, R and S, and the four faces over A, B, C and D.
 ghost use Rattle.std.specs.Prelude.{◌≡◌, [], ◌<◌, ◌≤◌, length, get_or};
 ghost use Rattle.laws.specs.Lists.{first, upward, Laid};
-ghost use Rattle.touches.specs.Touches.{touch, touch_count, Sound};
-ghost use Rattle.rules.specs.Start.{same_place, start, corners, start_faces};
-ghost use Rattle.hull.specs.Start.{suits, Known, found_of, start_of, started_of, past, next_other, KnownStart};
+ghost use Rattle.touches.specs.Touches.{touch, touch_count};
+ghost use Rattle.rules.specs.Start.{start, corners, start_faces, is_start};
+ghost use Rattle.hull.specs.Start.{is_apart, is_off_line, is_off_plane, found_of, start_of, started_of, KnownStart};
 
 use crate::four_corner::volume;
 use points::touch::touch;
 use points::vectors::in_line;
-use touches::{Point, TouchNo};
+use touches::{TouchList, TouchNo};
 
 // The starting faces, by place among A, B, C, D.
 const START: [[usize; 3]; 4] = [[0, 1, 2], [0, 3, 1], [1, 3, 2], [2, 3, 0]];
 
-// What is looked for: a touch apart from P, off the line of P and Q, or off the plane of P, Q and R.
-#[derive(Clone, Copy)]
-enum Sought {
-    Apart,
-    OffLine(TouchNo),
-    OffPlane(TouchNo, TouchNo),
-}
-
-#[derive(Clone, Copy)]
-enum Found {
-    Nowhere,
-    At(TouchNo),
-}
-
+// P, Q, R and S.
 #[derive(Clone, Copy)]
 pub(crate) struct Start {
     pub(crate) p: TouchNo,
@@ -35,60 +22,57 @@ pub(crate) struct Start {
     pub(crate) s: TouchNo,
 }
 
-#[derive(Clone, Copy)]
-pub(crate) enum Started {
-    Flat,
-    From(Start),
-}
-
-fn same_place(p: Point, q: Point) -> bool
-    ensures { result ≡ same_place p q }
-{
-    (p.x == q.x) & ((p.y == q.y) & (p.z == q.z))
-}
-
-fn is_suited(coords: &[i32], what: Sought, k: TouchNo) -> bool
-    requires { Sound coords.now × Known (touch_count coords.now) what × (k.0 < touch_count coords.now) }
-    ensures { result ≡ suits (touch coords.now) what k.0 }
-{
-    let p = touch(coords, TouchNo(0));
-    let t = touch(coords, k);
-    match what {
-        Sought::Apart => !same_place(p, t),
-        Sought::OffLine(q) => !in_line(p, touch(coords, q), t),
-        Sought::OffPlane(q, r) => volume(p, touch(coords, q), touch(coords, r), t) != 0,
+impl Start {
+    // Touch k is one of the four.
+    pub(crate) fn has(self, k: TouchNo) -> bool
+        ensures { result ≡ is_start (start_of self) k.0 }
+    {
+        [self.p.0, self.q.0, self.r.0, self.s.0].contains(&k.0)
     }
 }
 
-// The first of the n touches that is suited.
-fn first_suited(coords: &[i32], n: usize, what: Sought) -> Found
-    requires { Sound coords.now × (n ≡ touch_count coords.now) × Known n what }
-    ensures { result ≡ found_of (first (suits (touch coords.now) what) (upward 0 n)) }
+// Q: the first touch apart from P.
+fn find_q(list: &TouchList<'_>) -> Option<TouchNo>
+    ensures { result ≡ found_of (first (is_apart (touch list.now)) (upward 0 (touch_count list.now))) }
 {
-    let mut k: usize = 0;
-    while k < n {
-        if is_suited(coords, what, TouchNo(k as u16)) {
-            return Found::At(TouchNo(k as u16));
-        }
-        k += 1;
-    }
-    Found::Nowhere
+    (0..list.count() as u16)
+        .map(TouchNo)
+        .find(|k| touch(list, TouchNo(0)) != touch(list, *k))
 }
 
-pub(crate) fn find_start(coords: &[i32], n: usize) -> Started
-    requires { Sound coords.now × (n ≡ touch_count coords.now) }
-    ensures { result ≡ started_of (start (touch coords.now) n) }
+// R: the first touch off the line of P and Q.
+fn find_r(list: &TouchList<'_>, q: TouchNo) -> Option<TouchNo>
+    requires { q.0 < touch_count list.now }
+    ensures { result ≡ found_of (first (is_off_line (touch list.now) q.0) (upward 0 (touch_count list.now))) }
 {
-    let Found::At(q) = first_suited(coords, n, Sought::Apart) else {
-        return Started::Flat;
-    };
-    let Found::At(r) = first_suited(coords, n, Sought::OffLine(q)) else {
-        return Started::Flat;
-    };
-    let Found::At(s) = first_suited(coords, n, Sought::OffPlane(q, r)) else {
-        return Started::Flat;
-    };
-    Started::From(Start {
+    let p = touch(list, TouchNo(0));
+    let q = touch(list, q);
+    (0..list.count() as u16)
+        .map(TouchNo)
+        .find(|k| !in_line(p, q, touch(list, *k)))
+}
+
+// S: the first touch off the plane of P, Q and R.
+fn find_s(list: &TouchList<'_>, q: TouchNo, r: TouchNo) -> Option<TouchNo>
+    requires { (q.0 < touch_count list.now) × (r.0 < touch_count list.now) }
+    ensures { result ≡ found_of (first (is_off_plane (touch list.now) q.0 r.0) (upward 0 (touch_count list.now))) }
+{
+    let p = touch(list, TouchNo(0));
+    let q = touch(list, q);
+    let r = touch(list, r);
+    (0..list.count() as u16)
+        .map(TouchNo)
+        .find(|k| volume(p, q, r, touch(list, *k)) != 0)
+}
+
+// P, Q, R and S, or none where the touches are flat.
+pub(crate) fn find_start(list: &TouchList<'_>) -> Option<Start>
+    ensures { result ≡ started_of (start (touch list.now) (touch_count list.now)) }
+{
+    let q = find_q(list)?;
+    let r = find_r(list, q)?;
+    let s = find_s(list, q, r)?;
+    Some(Start {
         p: TouchNo(0),
         q,
         r,
@@ -96,62 +80,28 @@ pub(crate) fn find_start(coords: &[i32], n: usize) -> Started
     })
 }
 
-// Number k, or the next one where k is t.
-fn past(k: usize, t: TouchNo) -> usize
-    ensures { result ≡ past k t.0 }
-{
-    let n = t.0;
-    if k == n as usize {
-        return k + 1;
-    }
-    k
-}
-
-// The first touch from number k on that is not of the start. P is touch 0, which is never asked about; Q, R and S rise, so that
-// a touch after S needs one look.
-pub(crate) fn next_other(s: Start, k: usize) -> usize
-    ensures { result ≡ next_other (start_of s) k }
-{
-    let last = s.s.0;
-    if (last as usize) < k {
-        return k;
-    }
-    past(past(past(k, s.q), s.r), s.s)
-}
-
 // A, B, C, D.
-fn corners(coords: &[i32], s: Start) -> [u16; 4]
-    requires { Sound coords.now × KnownStart (touch_count coords.now) s }
-    ensures { result ≡ corners (touch coords.now) (start_of s) }
+fn corners(list: &TouchList<'_>, s: Start) -> [u16; 4]
+    requires { KnownStart (touch_count list.now) s }
+    ensures { result ≡ corners (touch list.now) (start_of s) }
 {
-    let p = touch(coords, s.p);
-    let q = touch(coords, s.q);
-    let r = touch(coords, s.r);
-    if 0 < volume(p, q, r, touch(coords, s.s)) {
+    let p = touch(list, s.p);
+    let q = touch(list, s.q);
+    let r = touch(list, s.r);
+    if 0 < volume(p, q, r, touch(list, s.s)) {
         return [s.p.0, s.q.0, s.r.0, s.s.0];
     }
     [s.q.0, s.p.0, s.r.0, s.s.0]
 }
 
-// Starting face number i over A, B, C, D.
-fn start_face(abcd: [u16; 4], i: usize) -> [u16; 3]
-    requires { i < 4 }
-    ensures { result ≡ get_or (start_faces abcd) i [] }
-{
-    let t = START[i];
-    [abcd[t[0]], abcd[t[1]], abcd[t[2]]]
-}
-
 // The four starting faces: how many they are.
-pub(crate) fn put_start(table: &mut [[u16; 3]], coords: &[i32], s: Start) -> usize
-    requires { Sound coords.now × KnownStart (touch_count coords.now) s × (4 ≤ length table.old) }
-    ensures { Laid 0 (start_faces (corners (touch coords.now) (start_of s))) table.old result table.new }
+pub(crate) fn put_start(table: &mut [[u16; 3]], list: &TouchList<'_>, s: Start) -> usize
+    requires { KnownStart (touch_count list.now) s × (4 ≤ length table.old) }
+    ensures { Laid 0 (start_faces (corners (touch list.now) (start_of s))) table.old result table.new }
 {
-    let abcd = corners(coords, s);
-    let mut i: usize = 0;
-    while i < 4 {
-        table[i] = start_face(abcd, i);
-        i += 1;
+    let abcd = corners(list, s);
+    for (i, [a, b, c]) in START.iter().enumerate() {
+        table[i] = [abcd[*a], abcd[*b], abcd[*c]];
     }
-    i
+    START.len()
 }

@@ -10,7 +10,8 @@ ghost use Rattle.hull.specs.Inner.{Ready, PartOf, Tables};
 use crate::whole::{first_in_front, in_front, put_planes};
 use border::{Marks, add_cone};
 use points::touch::touch;
-use touches::TouchNo;
+use points::whole::WholePlane;
+use touches::{TouchList, TouchNo};
 
 // How many faces of a table are kept, and how many are visible.
 #[derive(Clone, Copy)]
@@ -23,19 +24,19 @@ struct Parted {
 // Nothing moves before the first visible face.
 fn part(
     table: &mut [[u16; 3]],
-    planes: &mut [[i64; 4]],
+    planes: &mut [WholePlane],
     seen: &mut [[u16; 3]],
-    coords: &[i32],
+    list: &TouchList<'_>,
     n: usize,
     k: TouchNo,
 ) -> Parted
-    requires { Ready coords.now (take n table.old) k.0 × Planed coords.now n table.old planes.old
+    requires { Ready list.now (take n table.old) k.0 × Planed list.now n table.old planes.old
         × (n ≤ length table.old) × (n ≤ length planes.old) × (n ≤ length seen.old) }
-    ensures faces { PartOf coords.now (take n table.old) k.0 table.old
+    ensures faces { PartOf list.now (take n table.old) k.0 table.old
         result.kept table.new result.seen seen.new }
-    ensures planes { Planed coords.now result.kept table.new planes.new }
+    ensures planes { Planed list.now result.kept table.new planes.new }
 {
-    let q = touch(coords, k);
+    let q = touch(list, k);
     let Some(first) = first_in_front(&planes[..n], q) else {
         return Parted { kept: n, seen: 0 };
     };
@@ -59,23 +60,23 @@ fn part(
 // The table seen is room to work in.
 pub(crate) fn step(
     table: &mut [[u16; 3]],
-    planes: &mut [[i64; 4]],
+    planes: &mut [WholePlane],
     seen: &mut [[u16; 3]],
     marks: &mut Marks,
-    coords: &[i32],
+    list: &TouchList<'_>,
     n: usize,
     k: TouchNo,
 ) -> usize
-    requires { Ready coords.now (take n table.old) k.0 × Planed coords.now n table.old planes.old
-        × Tables coords.now table.old planes.old seen.old marks.old × Fresh k.0 marks.old.table.now × (n ≤ length table.old)
-        × (length (step (touch coords.now) (take n table.old) k.0) ≤ length table.old) }
-    ensures faces { Laid 0 (step (touch coords.now) (take n table.old) k.0) table.old result table.new }
-    ensures planes { Planed coords.now result table.new planes.new }
+    requires { Ready list.now (take n table.old) k.0 × Planed list.now n table.old planes.old
+        × Tables list.now table.old planes.old seen.old marks.old × Fresh k.0 marks.old.table.now × (n ≤ length table.old)
+        × (length (step (touch list.now) (take n table.old) k.0) ≤ length table.old) }
+    ensures faces { Laid 0 (step (touch list.now) (take n table.old) k.0) table.old result table.new }
+    ensures planes { Planed list.now result table.new planes.new }
     ensures marks { Fresh (k.0 + 1) marks.new.table.now }
     ensures width { marks.new.width ≡ marks.old.width }
 {
-    let p = part(table, planes, seen, coords, n, k);
+    let p = part(table, planes, seen, list, n, k);
     let r = add_cone(table, p.kept, &seen[..p.seen], marks, k);
-    put_planes(planes, table, coords, p.kept, r);
+    put_planes(planes, table, list, p.kept, r);
     r
 }

@@ -1,6 +1,14 @@
-use Rattle.std.proofs.Common.{sym}
-use Rattle.touches.proofs.SoundLaws.{accepted_sound}
+use Rattle.std.proofs.Common.{rules, ◌≡◌, sym, ap, ◌∙◌}
+use Rattle.std.specs.Prelude.{None, Ok, Err}
+use Rattle.std.specs.Result.{result_ok}
+use Rattle.touches.specs.Check.{checked}
+use Rattle.touches.specs.declared.refusal.Refusal.TheVariants.{AllTouchesOnOnePlane}
+use Rattle.hull.proofs.BuildLaws.{flat_built}
 use Rattle.hull.proofs.build.build.Goals as goal
 
-pub build_checked-requires : goal.build_checked-requires
-build_checked-requires c = let p = accepted_sound c.args.coords.now c.in-Accepted.list (sym c.in-Accepted.ensures) in (p.sound, p.count)
+pub returns-in_err-s-clause-answer : goal.returns-in_err-s-clause-answer
+returns-in_err-s-clause-answer c =
+    let a : checked c.args.coords.now ≡ Ok c.in_ok-list.list = search rules in
+    let n : None ≡ c.find_start.result = sym (c.ok_or.ensures.ok_part ∙ ap result_ok c.in_err-s.was) in
+    let e : c.from_residual-in_err-s.result ≡ Err AllTouchesOnOnePlane = search rules in
+    e ∙ flat_built c.args.coords.now c.in_ok-list.list c.args.faces.now a (n ∙ c.find_start.ensures)

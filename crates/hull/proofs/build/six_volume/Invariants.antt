@@ -2,9 +2,8 @@
 use Rattle.std.proofs.Common.{◌*◌}
 use Rattle.laws.proofs.Words.{Reads}
 use Rattle.touches.specs.Touches.{touch}
-use Rattle.volume.specs.Volume.{most_volume}
-use Rattle.hull.proofs.SumLaws.{so_far}
+use Rattle.hull.proofs.SumLaws.{most_read, so_far}
 use Rattle.hull.proofs.build.six_volume.Given as goal
 
 abbrev pub invariant-loop-p : goal.invariant-loop-p
-invariant-loop-p l = Reads (l.p-index * most_volume) l.sum (so_far (touch l.coords) l.q l.hull l.p-index)
+invariant-loop-p l = Reads (l.p-index * most_read) l.sum (so_far (touch l.list) l.q l.hull l.p-index)

@@ -1,25 +1,22 @@
-use Rattle.touches.specs.Touches.{touch}
-use Rattle.hull.specs.declared.start.Sought.TheVariants.{Apart, OffLine}
+use Rattle.touches.specs.Touches.{touch, touch_count}
+use Rattle.hull.specs.Start.{is_apart, is_off_line}
 use Rattle.hull.proofs.StartLaws.{suited_below, flat_R, flat_S, started}
 use Rattle.hull.proofs.start.find_start.Goals as goal
 
-pub first_suited-requires-2 : goal.first_suited-requires-2
-first_suited-requires-2 c = (c.requires.0, c.requires.1, suited_below (touch c.args.coords.now) c.args.n Apart c.in-At.ensures)
+pub find_r-requires : goal.find_r-requires
+find_r-requires c = suited_below (touch_count c.args.list.now) (is_apart (touch c.args.list.now)) c.in_ok-q.ensures
 
-pub returns-in_default-first_suited : goal.returns-in_default-first_suited
-returns-in_default-first_suited c = flat_R (touch c.args.coords.now) c.args.n c.in-At.q c.in-At.ensures c.in_default-first_suited.ensures
+pub returns-in_err-r : goal.returns-in_err-r
+returns-in_err-r c = rw c.from_residual-in_err-r.ensures (flat_R (touch c.args.list.now) (touch_count c.args.list.now) c.in_ok-q.q c.in_ok-q.ensures c.in_err-r.ensures)
 
-pub first_suited-requires-3 : goal.first_suited-requires-3
-first_suited-requires-3 c =
-    let p = touch c.args.coords.now in
-    let n = c.args.n in
-    (c.requires.0, c.requires.1, (suited_below p n Apart c.in-At.ensures, suited_below p n (OffLine c.in-At.q) c.in-At-first_suited.ensures))
+pub find_s-requires : goal.find_s-requires
+find_s-requires c =
+    let p = touch c.args.list.now in
+    let n = touch_count c.args.list.now in
+    (suited_below n (is_apart p) c.in_ok-q.ensures, suited_below n (is_off_line p c.in_ok-q.q.0) c.in_ok-r.ensures)
 
-pub returns-in_default-first_suited-2 : goal.returns-in_default-first_suited-2
-returns-in_default-first_suited-2 c =
-    flat_S (touch c.args.coords.now) c.args.n c.in-At.q c.in-At.ensures c.in-At-first_suited.r c.in-At-first_suited.ensures c.in_default-first_suited-2.ensures
+pub returns-in_err-s : goal.returns-in_err-s
+returns-in_err-s c = rw c.from_residual-in_err-s.ensures (flat_S (touch c.args.list.now) (touch_count c.args.list.now) c.in_ok-q.q c.in_ok-q.ensures c.in_ok-r.r c.in_ok-r.ensures c.in_err-s.ensures)
 
 pub returns : goal.returns
-returns c =
-    started (touch c.args.coords.now) c.args.n c.in-At.q c.in-At.ensures c.in-At-first_suited.r c.in-At-first_suited.ensures c.in-At-first_suited-2.s
-    c.in-At-first_suited-2.ensures
+returns c = started (touch c.args.list.now) (touch_count c.args.list.now) c.in_ok-q.q c.in_ok-q.ensures c.in_ok-r.r c.in_ok-r.ensures c.in_ok-s.s c.in_ok-s.ensures

@@ -1,4 +1,3 @@
-use Prim.Native.Nat.{◌≤◌, ◌-◌}
 use lib.ListN.{take}
 use Rattle.laws.specs.Lists.{Laid}
 use Rattle.rules.specs.Start.{start_faces}
@@ -6,10 +5,4 @@ use Rattle.hull.proofs.start.put_start.Given as goal
 
 -- the first i starting faces are laid
 abbrev pub invariant-loop-i : goal.invariant-loop-i
-invariant-loop-i l = record {
-  within : l.i ≤ 4;
-  laid : Laid 0 (take l.i (start_faces l.abcd)) l.initial.table l.i l.table;
-}
-
-abbrev pub decreases-loop-i : goal.decreases-loop-i
-decreases-loop-i l = 4 - l.i
+invariant-loop-i l = Laid 0 (take l.i (start_faces l.abcd)) l.initial.table l.i l.table

@@ -4,4 +4,4 @@ use Rattle.hull.proofs.PartLaws.{Parting}
 use Rattle.hull.proofs.step.part.Given as goal
 
 abbrev pub invariant-loop-i : goal.invariant-loop-i
-invariant-loop-i l = (l.m ≤ l.i) × (l.s ≤ l.i) × Parting l.coords l.q l.n l.initial.table l.table l.seen l.planes l.m l.s l.i
+invariant-loop-i l = (l.m ≤ l.i) × (l.s ≤ l.i) × Parting l.list l.q l.n l.initial.table l.table l.seen l.planes l.m l.s l.i

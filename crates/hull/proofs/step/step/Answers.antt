@@ -1,6 +1,5 @@
 use Rattle.std.proofs.Common.{◌≤◌, length, take, arith}
 use lib.ListN.{length-take}
-use Rattle.rules.proofs.Theorems.{accepted_few}
 use Rattle.hull.proofs.StepLaws.{kept_few, front_faces, cone_room, step_laid, step_faces, planed_before}
 use Rattle.hull.proofs.step.step.Goals as goal
 
@@ -10,7 +9,7 @@ add_cone-r-requires c =
     let h = c.requires in (
       h.3,
       front_faces q.ensures.faces (omega (arith, h.2.mark_width)) h.0,
-      omega (arith, h.0.touch, accepted_few h.0.sound),
+      omega (arith, h.0.touch, h.2.mark_width, c.args.marks.now.fits.few),
       cone_room q.ensures.faces (omega (arith, h.5, q.auto.table)),
     )
 
@@ -21,8 +20,7 @@ put_planes-requires c =
     let s = c.args in
     let a = c.add_cone-r in
     let few : q.result.kept ≤ length s.table.now = omega (arith, kept_few q.ensures.faces, length-take s.n s.table.now, h.4) in
-    let d = step_laid {cs = s.coords.now} {h = take s.n s.table.now} {k = s.k.0} q.ensures.faces a.ensures.faces in (
-      h.0.sound,
+    let d = step_laid {cs = s.list.now} {h = take s.n s.table.now} {k = s.k.0} q.ensures.faces a.ensures.faces in (
       planed_before q.ensures.planes a.ensures.faces (omega (arith, few, q.auto.table)),
       omega (arith, a.ensures.faces.next),
       omega (arith, d.next, h.5, q.auto.table, a.auto.table),
@@ -31,4 +29,4 @@ put_planes-requires c =
     )
 
 pub returns-clause-faces : goal.returns-clause-faces
-returns-clause-faces c = step_laid {cs = c.args.coords.now} {h = take c.args.n c.args.table.now} {k = c.args.k.0} c.part-p.ensures.faces c.add_cone-r.ensures.faces
+returns-clause-faces c = step_laid {cs = c.args.list.now} {h = take c.args.n c.args.table.now} {k = c.args.k.0} c.part-p.ensures.faces c.add_cone-r.ensures.faces
