@@ -11,8 +11,8 @@ loop-x-init c = (omega arith, rw body_none (laid_none _ _))
 pub loop-x-preserved : goal.loop-x-preserved
 loop-x-preserved c =
     let l = c.loop-x in
-    let h = c.requires.0.near l.x-index (omega arith) in (
+    let h = c.coords-x-items.sound.near l.x-index (omega arith) in (
       omega (arith, c.put_two-at.ensures.next, l.invariant.0),
-      rw (body_more c.args.coords.now l.x-index (omega arith))
-          (laid_then l.invariant.1 (omega (arith, c.requires.1)) (rw (c.bits_of.ensures ∙ ap bits16 (r_i32 tt h).is) at c.put_two-at.ensures)),
+      rw (body_more c.args.list.now l.x-index (omega arith))
+          (laid_then l.invariant.1 (omega (arith, c.requires)) (rw (c.bits_of.ensures ∙ ap bits16 (r_i32 tt h).is) at c.put_two-at.ensures)),
     )
