@@ -21,17 +21,19 @@ module _ (version : ℕ) (bytes : List ℕ) where
   -- the touches were laid into the room, and their m numbers checked there
   pub is_checked : {r : Result (List ℤ) Refusal} {after : List ℤ} (m : ℕ) (old : List ℤ) → m ≡ length (touches_in bytes) → after ≡ lay 0 (touches_in bytes) old
       → r ≡ checked (take m after) → checked_record version bytes ≡ checked (touches_in bytes) → r ≡ checked_record version bytes
-  is_checked m old n e f g = f ∙ ap checked (rw (e, n) (lay_first (touches_in bytes) old)) ∙ sym g
+  is_checked {after = after} m old n e f g =
+      let front : take m after ≡ touches_in bytes = rw (e, n) (lay_first (touches_in bytes) old) in
+      f ∙ ap checked front ∙ sym g
 
   -- an accepted record's touches
   module _ {l : List ℤ} (e : checked_record version bytes ≡ Ok l) where
-    opened_is : l ≡ touches_in bytes
-    opened_is = accepted_same (touches_in bytes) (passes version bytes e).touches
+    list_is : l ≡ touches_in bytes
+    list_is = accepted_same (touches_in bytes) (passes version bytes e).touches
 
-    opened_threes : touch_count l * 3 ≡ length l
-    opened_threes = omega (arith, accepted_threes (touches_in bytes) (passes version bytes e).touches, ap length opened_is)
+    list_threes : touch_count l * 3 ≡ length l
+    list_threes = omega (arith, accepted_threes (touches_in bytes) (passes version bytes e).touches, ap length list_is)
 
-    pub gives_touches : {old new : List ℤ} → length l ≤ length old → new ≡ lay 0 l old → ReadGives version bytes old (Ok (touch_count l)) new
-    gives_touches {old} h f =
-        let k : touch_count l * 3 ≤ length old = omega (arith, opened_threes) in
-        record { answer = rw (e, le-leb (touch_count l * 3) (length old) k); table = f ∙ ap (λ (ts : List ℤ). lay 0 ts old) opened_is }
+    pub gives_touches : {old new : List ℤ} {n : ℕ} → n ≡ touch_count l → length l ≤ length old → new ≡ lay 0 l old → ReadGives version bytes old (Ok n) new
+    gives_touches {old} q h f =
+        let k : touch_count l * 3 ≤ length old = omega (arith, list_threes) in
+        record { answer = rw (e, le-leb (touch_count l * 3) (length old) k, q); table = f ∙ ap (λ (ts : List ℤ). lay 0 ts old) list_is }

@@ -1,12 +1,11 @@
 -- What a list that passes refusals 1 to 3 has, by its count.
 use mathlib.Core.Path.{◌≡◌, ap}
 use mathlib.Core.List.{List}
-use Prim.Native.Nat.{◌*◌, ◌≤◌}
+use Prim.Native.Nat.{◌*◌}
 use native.Mathlib.Omega.{arith}
 use lib.IntN.{ℤ}
 use lib.ListN.{length}
 use Rattle.std.specs.Prelude.{Ok}
-use Rattle.touches.specs.Limits.{most_touches}
 use Rattle.touches.specs.Touches.{Sound, touch_count}
 use Rattle.touches.specs.Check.{checked}
 use Rattle.touches.proofs.SoundLaws.{accepted_sound as passed}
@@ -23,6 +22,3 @@ module _ (cs : List ℤ) {l : List ℤ} (e : checked cs ≡ Ok l) where
 
   pub accepted_threes : touch_count l * 3 ≡ length cs
   accepted_threes = omega (arith, accepted_sound.whole, accepted_count)
-
-  pub accepted_few : touch_count l ≤ most_touches
-  accepted_few = omega (arith, accepted_sound.few, accepted_threes)
