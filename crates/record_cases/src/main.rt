@@ -32,20 +32,17 @@ fn coords_of(case: ListCase) -> [i32; 259] {
 }
 
 fn read_case(rt: &impl Print, bytes: &[u8], list: &mut [i32]) -> io::Result<()> {
-    let answer = records::read(bytes, list);
-    show::answer(rt, "read", records::read_numbers(answer))?;
+    show::answer(rt, "read", records::read(bytes, list))?;
     show::list(rt, list)
 }
 
 fn write_case(rt: &impl Print, coords: &[i32], buffer: &mut [u8]) -> io::Result<()> {
-    let answer = records::write(coords, buffer);
-    show::answer(rt, "write", records::write_numbers(answer))?;
+    show::answer(rt, "write", records::write(coords, buffer))?;
     show::bytes(rt, buffer)
 }
 
 fn copy_case(rt: &impl Print, bytes: &[u8], buffer: &mut [u8]) -> io::Result<()> {
-    let answer = records::copy(bytes, buffer);
-    show::answer(rt, "copy", records::write_numbers(answer))?;
+    show::answer(rt, "copy", records::copy(bytes, buffer))?;
     show::bytes(rt, buffer)
 }
 

@@ -1,12 +1,17 @@
 // Printing to standard output.
-use records::Numbers;
 use std::io;
+use touches::Refusal;
 
-pub fn answer(rt: &impl Print, call: &str, n: Numbers) -> io::Result<()> {
-    print!(rt;
-        "\n  {call} {} {} {}, changed",
-        n.number, n.place.0, n.count
-    )
+// The paper's numbers of an answer: refusal number and place, 0 for a success; then the count, 0 for a refusal.
+pub fn answer(rt: &impl Print, call: &str, answer: Result<usize, Refusal>) -> io::Result<()> {
+    match answer {
+        Ok(count) => print!(rt; "\n  {call} 0 0 {count}, changed"),
+        Err(refusal) => print!(rt;
+            "\n  {call} {} {} 0, changed",
+            refusal.number(),
+            refusal.place().0
+        ),
+    }
 }
 
 // How many numbers of a table that was all 9 are not, and the first 30.

@@ -6,10 +6,9 @@ use native.Mathlib.Omega.{arith}
 use lib.IntN.{ℤ}
 use lib.ListN.{length, drop, get_or, length-drop}
 use lib.Seq.{get_or-drop}
+use Rattle.std.specs.Prelude.{Ok}
 use Rattle.touches.specs.Touches.{Sound, touch_count}
 use Rattle.touches.specs.Check.{checked}
-use Rattle.touches.specs.declared.TouchList.{TouchList}
-use Rattle.touches.specs.declared.Checked.TheVariants.{Accepted}
 use Rattle.records.specs.Record.{body_of, record_of, count_in, version_in, touches_in, AreBytes}
 use Rattle.records.specs.Answers.{checked_record}
 use Rattle.records.proofs.WordLaws.{two_back, high_of, low_of}
@@ -52,7 +51,7 @@ three (a ∷ []) h = absurd (omega arith)
 three (a ∷ b ∷ []) h = absurd (omega arith)
 three (a ∷ b ∷ c ∷ r) h = refl
 
-pub record_in : (version : ℕ) (r : List ℕ) {l : TouchList} → AreBytes r → checked_record version r ≡ Accepted l → record_of version (touches_in r) ≡ r
+pub record_in : (version : ℕ) (r : List ℕ) {l : List ℤ} → AreBytes r → checked_record version r ≡ Ok l → record_of version (touches_in r) ≡ r
 unfolding record_of
 record_in version r b e =
     let p = passes version r e in

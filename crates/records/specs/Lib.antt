@@ -1,4 +1,3 @@
 pub mod Record
 pub mod Answers
-pub mod Inner
 pub mod RoundTrip
