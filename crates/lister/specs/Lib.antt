@@ -1,2 +1,3 @@
 pub mod Listing
+pub mod Inner
 pub mod Room

@@ -1,19 +1,17 @@
 -- 01 'The listing program': the whole text for a record's bytes.
-use Rattle.std.specs.Prelude.{List, [], ◌∷◌, ◌++◌, ℕ, ◌*◌, leb, ℤ, length}
+use Rattle.std.specs.Prelude.{List, [], ◌∷◌, ◌++◌, ℕ, ◌*◌, leb, ℤ, length, Result, Ok, Err}
 use Rattle.std.proofs.Math.Option.{Option, none, some}
 use Rattle.touches.specs.Limits.{most_touches, most_faces}
 use Rattle.touches.specs.Touches.{touch}
-use Rattle.touches.specs.Refusals.{record_length_wrong, because}
+use Rattle.touches.specs.Refusals.{number, place}
 use Rattle.touches.specs.Check.{pick, checked, if_accepted}
-use Rattle.touches.specs.declared.Refusal.{Refusal}
+use Rattle.touches.specs.declared.refusal.Refusal.{Refusal}
+use Rattle.touches.specs.declared.refusal.Refusal.TheVariants.{RecordLengthWrong}
 use Rattle.rules.specs.Faces.{Face, corner}
 use Rattle.hull.specs.Build.{hull_of, built_from}
-use Rattle.hull.specs.declared.build.Built.{Built}
-use Rattle.hull.specs.declared.build.Built.TheVariants.{Hull, Refused as BuildRefused}
+use Rattle.hull.specs.declared.build.Hull.{Hull}
 use Rattle.records.specs.Record.{plain_version, touches_in}
 use Rattle.records.specs.Answers.{read_of}
-use Rattle.records.specs.declared.ReadAnswer.{ReadAnswer}
-use Rattle.records.specs.declared.ReadAnswer.TheVariants.{Touches, Refused as ReadRefused}
 use Rattle.text.specs.Decimal.{decimal, whole, line}
 
 -- more bytes than these are refused 8
@@ -29,7 +27,7 @@ refused_word = 114 ∷ 101 ∷ 102 ∷ 117 ∷ 115 ∷ 101 ∷ 100 ∷ []
 
 -- `refused`, number, place
 abbrev pub refused_line : Refusal → List ℕ
-refused_line x = line (refused_word ∷ decimal x.number ∷ decimal x.place.0 ∷ [])
+refused_line x = line (refused_word ∷ decimal (number x) ∷ decimal (place x).0 ∷ [])
 
 -- `hull`, face count, volume
 abbrev pub hull_line : ℕ → ℤ → List ℕ
@@ -44,28 +42,28 @@ face_lines [] = []
 face_lines (f ∷ h) = face_line f ++ face_lines h
 
 -- ---- what the building call gives with room for 1,344 faces
-abbrev pub answer : List ℤ → Built
-answer cs = if_accepted (checked cs) BuildRefused (built_from (touch cs) most_faces (hull_of cs))
+abbrev pub answer : List ℤ → Result Hull Refusal
+answer cs = if_accepted (checked cs) (built_from (touch cs) most_faces (hull_of cs))
 
 abbrev pub faces_of : Option (List Face) → List Face
 faces_of none = []
 faces_of (some h) = h
 
-abbrev pub built_text : Built → List Face → List ℕ
-built_text (Hull n v) h = hull_line n v ++ face_lines h
-built_text (BuildRefused x) h = refused_line x
+abbrev pub built_text : Result Hull Refusal → List Face → List ℕ
+built_text (Ok u) h = hull_line u.faces u.volume ++ face_lines h
+built_text (Err x) h = refused_line x
 
 unfoldable pub hull_text : List ℤ → List ℕ
 hull_text cs = built_text (answer cs) (faces_of (hull_of cs))
 
 -- ---- what the reading call gives with room for 64 touches, and then the building call
-abbrev pub read_text : List ℕ → ReadAnswer → List ℕ
-read_text r (Touches n) = hull_text (touches_in r)
-read_text r (ReadRefused x) = refused_line x
+abbrev pub read_text : List ℕ → Result ℕ Refusal → List ℕ
+read_text r (Ok n) = hull_text (touches_in r)
+read_text r (Err x) = refused_line x
 
 -- over 65,536 bytes: refusal 8
 unfoldable pub listing : List ℕ → List ℕ
 listing r =
     pick (leb (length r) most_bytes)
     (read_text r (read_of plain_version r (most_touches * 3)))
-    (refused_line (because record_length_wrong))
+    (refused_line RecordLengthWrong)

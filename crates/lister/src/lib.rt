@@ -8,13 +8,12 @@ ghost use Rattle.table.specs.Table.{room, faces_in};
 ghost use Rattle.text.specs.Decimal.{decimal, whole, newline};
 ghost use Rattle.text.specs.Room.{Put, Front};
 ghost use Rattle.lister.specs.Listing.{hull_line, refused_line, face_line, face_lines, hull_text, listing};
+ghost use Rattle.lister.specs.Inner.{PutOrRefused};
 ghost use Rattle.lister.specs.Room.{field_room, volume_room, face_room, first_room, listing_room};
 
 mod input;
 
-use hull::build::Built;
 pub use input::list_input;
-use records::ReadAnswer;
 use touches::{FaceNo, Refusal, TouchList, TouchNo};
 
 // More bytes than these are refused 8.
@@ -36,7 +35,7 @@ fn put_field(out: &mut [u8], at: usize, n: u16, after: u8) -> usize
     ensures laid { Laid at (decimal n ++ (after ∷ [])) out.old result out.new }
     ensures short { result ≤ at + field_room }
 {
-    let next = text::put_decimal(out, at, n as u64);
+    let next = text::put_decimal(out, at, u64::from(n));
     out[next] = after;
     next + 1
 }
@@ -56,10 +55,9 @@ fn put_refused(out: &mut [u8], x: Refusal) -> usize
     requires { first_room ≤ length out.old }
     ensures { Laid 0 (refused_line x) out.old result out.new }
 {
-    let place = x.place.0;
     let a = put_word(out, b"refused ");
-    let b = put_field(out, a, x.number as u16, b' ');
-    put_field(out, b, place, b'\n')
+    let b = put_field(out, a, u16::from(x.number()), b' ');
+    put_field(out, b, x.place().0, b'\n')
 }
 
 fn put_hull(out: &mut [u8], n: u16, v: i64) -> usize
@@ -95,34 +93,36 @@ fn put_faces(out: &mut [u8], start: usize, faces: &[u16], n: u16) -> usize
 }
 
 // The hull of the touches, or why there is none.
-fn put_built(out: &mut [u8], coords: &[i32]) -> usize
+fn put_built(out: &mut [u8], coords: &[i32]) -> Result<usize, Refusal>
     requires { length out.old ≡ listing_room }
-    ensures { Laid 0 (hull_text coords.now) out.old result out.new }
+    ensures { PutOrRefused (hull_text coords.now) out.old result out.new }
 {
     let mut faces = [0u16; table::ENOUGH];
-    match hull::build::build(coords, &mut faces) {
-        Built::Refused(x) => put_refused(out, x),
-        Built::Hull(n, v) => {
-            let at = put_hull(out, n, v);
-            put_faces(out, at, &faces, n)
-        }
+    let hull = hull::build::build(coords, &mut faces)?;
+    let at = put_hull(out, hull.faces, hull.volume);
+    Ok(put_faces(out, at, &faces, hull.faces))
+}
+
+// The hull of the record's touches, or why there is none.
+fn put_read(out: &mut [u8], bytes: &[u8]) -> Result<usize, Refusal>
+    requires { length out.old ≡ listing_room }
+    ensures { PutOrRefused (listing bytes.now) out.old result out.new }
+{
+    if MOST_BYTES < bytes.len() {
+        return Err(Refusal::RecordLengthWrong);
     }
+    let mut coords = [0i32; TouchList::MOST * 3];
+    let n = records::read(bytes, &mut coords)?;
+    put_built(out, &coords[..n * 3])
 }
 
 fn put_listing(out: &mut [u8], bytes: &[u8]) -> usize
     requires { length out.old ≡ listing_room }
     ensures { Laid 0 (listing bytes.now) out.old result out.new }
 {
-    if MOST_BYTES < bytes.len() {
-        return put_refused(out, Refusal::because(Refusal::RECORD_LENGTH_WRONG));
-    }
-    let mut coords = [0i32; TouchList::MOST * 3];
-    match records::read(bytes, &mut coords) {
-        ReadAnswer::Refused(x) => put_refused(out, x),
-        ReadAnswer::Touches(n) => {
-            let m = n * 3;
-            put_built(out, &coords[..m])
-        }
+    match put_read(out, bytes) {
+        Ok(n) => n,
+        Err(x) => put_refused(out, x),
     }
 }
 
