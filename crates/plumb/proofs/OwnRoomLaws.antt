@@ -6,9 +6,8 @@ use Prim.Native.Nat.{ℕ, ◌*◌, ◌≤◌}
 use native.Mathlib.Omega.{arith}
 use lib.IntN.{ℤ}
 use lib.ListN.{length}
-use Rattle.touches.specs.declared.Refusal.{Refusal}
-use Rattle.touches.specs.declared.Checked.{Checked}
-use Rattle.touches.specs.declared.Checked.TheVariants.{Accepted, Refused as CheckedRefused}
+use Rattle.std.specs.Prelude.{Result, Ok, Err}
+use Rattle.touches.specs.declared.refusal.Refusal.{Refusal}
 use Rattle.touches.specs.Limits.{most_touches}
 use Rattle.touches.specs.Touches.{touch, Sound}
 use Rattle.touches.specs.Check.{checked, if_accepted}
@@ -19,27 +18,22 @@ use Rattle.cover.specs.Room.{enough}
 use Rattle.table.specs.Table.{stride, room, lent, first_faces}
 use Rattle.table.proofs.LentLaws.{room_laid}
 use Rattle.hull.specs.Build.{hull_of, built_from, built, table_after}
-use Rattle.hull.specs.declared.build.Built.{Built}
-use Rattle.hull.specs.declared.build.Built.TheVariants.{Hull, Refused}
+use Rattle.hull.specs.declared.build.Hull.{Hull}
 use Rattle.hull.proofs.BuildLaws.{room_enough}
 use Rattle.hull.proofs.Inversion.{inverted}
 use Rattle.plumb.specs.Plumb.{plumbed_over, plumbed}
-use Rattle.plumb.specs.declared.Plumbed.TheVariants.{Refused as LineRefused}
 
 -- a refusal of building is the plumb line's
-pub own_refused : (cs : List ℤ) (old : List ℕ) → enough most_touches ≤ room old → (x y : ℤ) {r : Refusal} → built cs old ≡ Refused r → LineRefused r ≡ plumbed cs x y
+pub own_refused : (cs : List ℤ) (old : List ℕ) → enough most_touches ≤ room old → (x y : ℤ) {r : Refusal} → built cs old ≡ Err r → Err r ≡ plumbed cs x y
 own_refused cs old w x y {r} e = list (checked cs) refl e
   where
-    hull : Sound cs → (o : Option (List Face)) → hull_of cs ≡ o → built_from (touch cs) (room old) o ≡ Refused r → LineRefused r ≡ plumbed_over cs x y o
+    hull : Sound cs → (o : Option (List Face)) → hull_of cs ≡ o → built_from (touch cs) (room old) o ≡ Err r → Err r ≡ plumbed_over cs x y o
     hull d none i f = cc
-    hull d (some h) i f =
-        let g = room_enough cs i (omega (arith, w, accepted_few d)) ∙ f in
-        let z : ◌≡◌ {A = ℕ} 0 1 = cc in
-        absurd (omega arith)
+    hull d (some h) i f = let g = room_enough cs i (omega (arith, w, accepted_few d)) ∙ f in cc
 
-    list : (k : Checked) → checked cs ≡ k → if_accepted k Refused (built_from (touch cs) (room old) (hull_of cs)) ≡ Refused r → LineRefused r ≡ if_accepted k LineRefused (plumbed_over cs x y (hull_of cs))
-    list (Accepted l) g f = hull (accepted_sound cs l g).sound (hull_of cs) refl f
-    list (CheckedRefused q) g f = cc
+    list : (k : Result (List ℤ) Refusal) → checked cs ≡ k → if_accepted k (built_from (touch cs) (room old) (hull_of cs)) ≡ Err r → Err r ≡ if_accepted k (plumbed_over cs x y (hull_of cs))
+    list (Ok l) g f = hull (accepted_sound cs l g).sound (hull_of cs) refl f
+    list (Err q) g f = cc
 
 -- the list is sound, and the table's first n faces are its hull
 pub record Filled (cs : List ℤ) (n : ℕ) (t : List ℕ) : Type 0 where
@@ -50,10 +44,10 @@ pub record Filled (cs : List ℤ) (n : ℕ) (t : List ℕ) : Type 0 where
   pub count : n ≡ length faces
   pub long : n * stride ≤ length t
 
-pub own_filled : (cs : List ℤ) (old : List ℕ) {b : Built} → b ≡ built cs old → {after : List ℕ} → after ≡ table_after b (hull_of cs) old → {n : ℕ} {v : ℤ} → b ≡ Hull n v → Filled cs n after
-own_filled cs old e {after} t {n} k =
+pub own_filled : (cs : List ℤ) (old : List ℕ) {b : Result Hull Refusal} → b ≡ built cs old → {after : List ℕ} → after ≡ table_after b (hull_of cs) old → {u : Hull} → b ≡ Ok u → Filled cs u.faces after
+own_filled cs old e {after} t {u} k =
     let i = inverted cs old (sym e ∙ k) in
     let h = i.0 in
-    let a = t ∙ ap (λ (r : Built). table_after r (hull_of cs) old) e in
+    let a = t ∙ ap (λ (r : Result Hull Refusal). table_after r (hull_of cs) old) e in
     let r : length h ≤ room after = subst (λ (l : List ℕ). length h ≤ room l) (sym (a ∙ i.1.table)) (room_laid h old) in
-    record { sound = i.1.sound; faces = h; is = i.1.is; part = ap (first_faces n) a ∙ i.1.part; count = i.1.count; long = omega (arith, i.1.count) }
+    record { sound = i.1.sound; faces = h; is = i.1.is; part = ap (first_faces u.faces) a ∙ i.1.part; count = i.1.count; long = omega (arith, i.1.count) }

@@ -5,9 +5,9 @@ use mathlib.Core.Bool.{true, ◌&&◌}
 use mathlib.Core.List.{List}
 use mathlib.Core.Option.{some}
 use Prim.Native.Nat.{ℕ}
-use native.Mathlib.Omega.{arith}
 use lib.IntN.{ℤ}
-use lib.Ieee.{Float}
+use Rattle.std.specs.Prelude.{Result, Ok}
+use Rattle.touches.specs.declared.refusal.Refusal.{Refusal}
 use Rattle.touches.specs.declared.FaceNo.{FaceNo}
 use Rattle.touches.specs.Limits.{in_range}
 use Rattle.touches.specs.Touches.{touch, touch_count, face_no, Sound}
@@ -24,24 +24,19 @@ use Rattle.hull.specs.declared.place.Placed.TheVariants.{Outside}
 use Rattle.hull.proofs.Inversion.{Inverted}
 use Rattle.hull.proofs.CallLaws.{call_places}
 use Rattle.plumb.specs.Plumb.{rounded, plumbed_by, plumbed}
+use Rattle.plumb.specs.declared.Plumbed.{Plumbed}
 use Rattle.plumb.specs.declared.Plumbed.TheVariants.{Misses, Touches, Through}
 use Rattle.plumb.proofs.PlumbedLaws.{sound_plumbed, over_read}
 
--- the answer tells the three readings apart
-misses_touches : {t : Float} → Misses ≡ Touches t → ⊥
-misses_touches e = let z : ◌≡◌ {A = ℕ} 0 1 = cc in omega arith
-
-misses_through : {u l : Float} → Misses ≡ Through u l → ⊥
-misses_through e = let z : ◌≡◌ {A = ℕ} 0 1 = cc in omega arith
-
-touches_through : {t u l : Float} → Touches t ≡ Through u l → ⊥
-touches_through e = let z : ◌≡◌ {A = ℕ} 0 1 = cc in omega arith
+-- the call's answer where the line's reading is l
+abbrev given : Plumb → Result Plumbed Refusal
+given l = Ok (plumbed_by l)
 
 module _ {cs : List ℤ} (d : Sound cs) {h : List Face} (e : hull_of cs ≡ some h) (x y : ℤ) (w : in_range x && in_range y ≡ true) where
   abbrev line : Plumb
   line = plumb (touch cs) h x y
 
-  pub call_plumbs : plumbed cs x y ≡ plumbed_by line
+  pub call_plumbs : plumbed cs x y ≡ given line
   call_plumbs = sound_plumbed cs x y d ∙ sym (over_read cs x y e w refl)
 
   -- the tightest bounds
@@ -52,49 +47,49 @@ module _ {cs : List ℤ} (d : Sound cs) {h : List Face} (e : hull_of cs ≡ some
   upper = highest (touch cs) (touch_count cs) e x y
 
   -- the call gives the answer of the reading r exactly where the line's reading is r
-  answers : {r : Plumb} {E : Type 0} → (plumbed_by line ≡ plumbed_by r → line ≡ r) → (line ≡ r) ↔ E → (plumbed cs x y ≡ plumbed_by r) ↔ E
-  answers back is = ((λ k. is.0 (back (sym call_plumbs ∙ k))), (λ k. call_plumbs ∙ ap plumbed_by (is.1 k)))
+  answers : {r : Plumb} {E : Type 0} → (given line ≡ given r → line ≡ r) → (line ≡ r) ↔ E → (plumbed cs x y ≡ given r) ↔ E
+  answers back is = ((λ k. is.0 (back (sym call_plumbs ∙ k))), (λ k. call_plumbs ∙ ap given (is.1 k)))
 
   three : (line ≡ misses) ⊎ (line ≡ touches upper) ⊎ (line ≡ through upper lower)
   three = hull_reading (touch cs) (touch_count cs) e x y
 
   -- the line goes through exactly if the upper bound is the greater as a fraction and no upright face refuses
-  pub call_through : (plumbed cs x y ≡ Through (rounded upper) (rounded lower)) ↔ (NoneRefuses (touch cs) h x y × Below lower upper)
+  pub call_through : (plumbed cs x y ≡ Ok (Through (rounded upper) (rounded lower))) ↔ (NoneRefuses (touch cs) h x y × Below lower upper)
   call_through = answers {r = through upper lower} (λ k. go three k) (line_through (touch cs) (touch_count cs) e x y)
     where
-      go : (line ≡ misses) ⊎ (line ≡ touches upper) ⊎ (line ≡ through upper lower) → plumbed_by line ≡ Through (rounded upper) (rounded lower) → line ≡ through upper lower
-      go (inl a) k = absurd (misses_through (sym (ap plumbed_by a) ∙ k))
-      go (inr (inl a)) k = absurd (touches_through (sym (ap plumbed_by a) ∙ k))
+      go : (line ≡ misses) ⊎ (line ≡ touches upper) ⊎ (line ≡ through upper lower) → given line ≡ given (through upper lower) → line ≡ through upper lower
+      go (inl a) k = cc
+      go (inr (inl a)) k = cc
       go (inr (inr a)) k = a
 
   -- it touches exactly if the two bounds are equal as fractions and no upright face refuses
-  pub call_touches : (plumbed cs x y ≡ Touches (rounded upper)) ↔ (NoneRefuses (touch cs) h x y × Equal lower upper)
+  pub call_touches : (plumbed cs x y ≡ Ok (Touches (rounded upper))) ↔ (NoneRefuses (touch cs) h x y × Equal lower upper)
   call_touches = answers {r = touches upper} (λ k. go three k) (line_touches (touch cs) (touch_count cs) e x y)
     where
-      go : (line ≡ misses) ⊎ (line ≡ touches upper) ⊎ (line ≡ through upper lower) → plumbed_by line ≡ Touches (rounded upper) → line ≡ touches upper
-      go (inl a) k = absurd (misses_touches (sym (ap plumbed_by a) ∙ k))
+      go : (line ≡ misses) ⊎ (line ≡ touches upper) ⊎ (line ≡ through upper lower) → given line ≡ given (touches upper) → line ≡ touches upper
+      go (inl a) k = cc
       go (inr (inl a)) k = a
-      go (inr (inr a)) k = absurd (touches_through (sym k ∙ ap plumbed_by a))
+      go (inr (inr a)) k = cc
 
   -- it misses exactly if an upright face refuses or the upper bound is the less
-  pub call_misses : (plumbed cs x y ≡ Misses) ↔ ((NoneRefuses (touch cs) h x y → ⊥) ⊎ Below upper lower)
+  pub call_misses : (plumbed cs x y ≡ Ok Misses) ↔ ((NoneRefuses (touch cs) h x y → ⊥) ⊎ Below upper lower)
   call_misses = answers {r = misses} (λ k. go three k) (line_misses (touch cs) (touch_count cs) e x y)
     where
-      go : (line ≡ misses) ⊎ (line ≡ touches upper) ⊎ (line ≡ through upper lower) → plumbed_by line ≡ Misses → line ≡ misses
+      go : (line ≡ misses) ⊎ (line ≡ touches upper) ⊎ (line ≡ through upper lower) → given line ≡ given misses → line ≡ misses
       go (inl a) k = a
-      go (inr (inl a)) k = absurd (misses_touches (sym k ∙ ap plumbed_by a))
-      go (inr (inr a)) k = absurd (misses_through (sym k ∙ ap plumbed_by a))
+      go (inr (inl a)) k = cc
+      go (inr (inr a)) k = cc
 
 -- building was accepted too: what the placing call says, of the table that it left, of the place over x and y at height z
 module _ {cs : List ℤ} {old : List ℕ} {n : ℕ} {v : ℤ} {h : List Face} (i : Inverted cs old n v h) (x y : ℤ) (w : in_range x && in_range y ≡ true) (z : ℤ) (in-range : in_range z ≡ true) where
-  abbrev pub placed_at : Placed
+  abbrev pub placed_at : Result Placed Refusal
   placed_at = placed cs (first_faces n (table_after (built cs old) (hull_of cs) old)) (over x y z)
 
   at : placed_at ≡ placed_by (lies (touch cs) h (over x y z))
   at = call_places i (over x y z) (ap₂ ◌&&◌ w in-range)
 
   -- where the line misses, every place over x and y is outside
-  pub call_outside : plumbed cs x y ≡ Misses → (f : FaceNo) × (d : ℤ) × (placed_at ≡ Outside f d)
+  pub call_outside : plumbed cs x y ≡ Ok Misses → (f : FaceNo) × (d : ℤ) × (placed_at ≡ Ok (Outside f d))
   call_outside k =
       let m = (line_misses (touch cs) (touch_count cs) i.is x y).1 ((call_misses i.sound i.is x y w).0 k) in
       let o = misses_outside (touch cs) (touch_count cs) i.is x y m z in

@@ -10,11 +10,11 @@ use Rattle.laws.proofs.Tests.{and_true}
 use Rattle.laws.proofs.WithinLaws.{within_more}
 use Rattle.laws.proofs.Doubles.{zero_quotient}
 use Rattle.laws.specs.Doubles.{double}
-use Rattle.touches.specs.declared.Refusal.{Refusal}
-use Rattle.touches.specs.declared.Checked.{Checked}
+use Rattle.std.specs.Prelude.{Result, Ok, Err}
+use Rattle.touches.specs.declared.refusal.Refusal.{Refusal}
+use Rattle.touches.specs.declared.refusal.Refusal.TheVariants.{PlaceOutOfRange}
 use Rattle.touches.specs.Limits.{in_range, place_in_range}
 use Rattle.touches.specs.Touches.{touch, Sound}
-use Rattle.touches.specs.Refusals.{place_out_of_range, because}
 use Rattle.touches.specs.Check.{pick, if_accepted}
 use Rattle.touches.proofs.SoundLaws.{sound_accepted}
 use Rattle.rules.specs.Faces.{Face}
@@ -26,7 +26,6 @@ use Rattle.plumb.specs.Ranged.{Ranged}
 use Rattle.plumb.specs.Plumb.{rounded, plumbed_by, plumbed_over, plumbed}
 use Rattle.plumb.specs.declared.bounds.Bounds.{Bounds}
 use Rattle.plumb.specs.declared.Plumbed.{Plumbed}
-use Rattle.plumb.specs.declared.Plumbed.TheVariants.{Refused}
 
 -- ---- a height of zero is plus zero
 pub zero_height : (t : Ratio) → Ranged t → t.top ≡ pos 0 → rounded t ≡ double (pos 0)
@@ -43,18 +42,18 @@ column x y = and_true (in_range x && in_range y)
 module _ (cs : List ℤ) (x y : ℤ) where
   -- a list that passed refusals 1 to 3
   pub sound_plumbed : Sound cs → plumbed cs x y ≡ plumbed_over cs x y (hull_of cs)
-  sound_plumbed d = ap (λ (k : Checked). if_accepted k Refused (plumbed_over cs x y (hull_of cs))) (sound_accepted cs d)
+  sound_plumbed d = ap (λ (k : Result (List ℤ) Refusal). if_accepted k (plumbed_over cs x y (hull_of cs))) (sound_accepted cs d)
 
   -- the bounds are those of the hull's faces
   pub hull_read : {r : Plumbed} (b : Bounds) {h g : List Face} {x' y' : ℤ} → r ≡ plumbed_by (reading_of (bounds_of b)) → bounds_of b ≡ bounds (touch cs) x' y' unbounded g → x' ≡ x → y' ≡ y → g ≡ h → r ≡ plumbed_by (plumb (touch cs) h x y)
   unfolding plumb
   hull_read b e q a c f = e ∙ ap (λ (l : Limits). plumbed_by (reading_of l)) q ∙ (λ i. plumbed_by (reading_of (bounds (touch cs) (a i) (c i) unbounded (f i))))
 
-  over_is : {h : List Face} {t : Bool} → hull_of cs ≡ some h → in_range x && in_range y ≡ t → pick t (plumbed_by (plumb (touch cs) h x y)) (Refused (because place_out_of_range)) ≡ plumbed_over cs x y (hull_of cs)
-  over_is {h} e t = sym (ap (plumbed_over cs x y) e ∙ ap (λ (b : Bool). pick b (plumbed_by (plumb (touch cs) h x y)) (Refused (because place_out_of_range))) t)
+  over_is : {h : List Face} {t : Bool} → hull_of cs ≡ some h → in_range x && in_range y ≡ t → pick t (Ok (plumbed_by (plumb (touch cs) h x y))) (Err PlaceOutOfRange) ≡ plumbed_over cs x y (hull_of cs)
+  over_is {h} e t = sym (ap (plumbed_over cs x y) e ∙ ap (λ (b : Bool). pick b (Ok (plumbed_by (plumb (touch cs) h x y))) (Err PlaceOutOfRange)) t)
 
-  pub over_far : {h : List Face} → hull_of cs ≡ some h → in_range x && in_range y ≡ false → {z : Refusal} → z ≡ because place_out_of_range → Refused z ≡ plumbed_over cs x y (hull_of cs)
-  over_far e t q = ap Refused q ∙ over_is e t
+  pub over_far : {h : List Face} → hull_of cs ≡ some h → in_range x && in_range y ≡ false → Err PlaceOutOfRange ≡ plumbed_over cs x y (hull_of cs)
+  over_far e t = over_is e t
 
-  pub over_read : {h : List Face} → hull_of cs ≡ some h → in_range x && in_range y ≡ true → {r : Plumbed} → r ≡ plumbed_by (plumb (touch cs) h x y) → r ≡ plumbed_over cs x y (hull_of cs)
-  over_read e t q = q ∙ over_is e t
+  pub over_read : {h : List Face} → hull_of cs ≡ some h → in_range x && in_range y ≡ true → {r : Plumbed} → r ≡ plumbed_by (plumb (touch cs) h x y) → Ok r ≡ plumbed_over cs x y (hull_of cs)
+  over_read e t q = ap Ok q ∙ over_is e t

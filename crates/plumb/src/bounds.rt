@@ -1,17 +1,15 @@
 // The bounds that the faces of a table give the height of a line at x and y.
 ghost use Rattle.std.specs.Prelude.{◌≡◌, true};
 ghost use Rattle.laws.specs.Numbers.{Within};
-ghost use Rattle.touches.specs.Limits.{reach};
-ghost use Rattle.touches.specs.Touches.{touch, touch_count, Sound};
+ghost use Rattle.touches.specs.Touches.{touch, touch_count};
 ghost use Rattle.volume.specs.Volume.{most_volume, most_normal};
 ghost use Rattle.rules.specs.Plumb.{bounded, unbounded, bounds};
 ghost use Rattle.table.specs.Table.{faces_in, usable};
-ghost use Rattle.points.specs.Whole.{PlaneNear};
 ghost use Rattle.plumb.specs.Bounds.{bounds_of, rest_at};
 
 use crate::fractions::Fraction;
-use points::whole::plane_on;
-use touches::FaceNo;
+use points::whole::{WholePlane, plane_on};
+use touches::{FaceNo, Place, TouchList};
 
 // What the faces so far say: whether the upright ones admit the line, and the tightest bounds of its height.
 #[derive(Clone, Copy)]
@@ -47,18 +45,17 @@ fn look_at_face(b: Bounds, facing: i64, rest: i64) -> Bounds
     }
 }
 
-// What is left of the offset of plane p at x and y for the height.
-fn rest(p: [i64; 4], x: i64, y: i64) -> i64
-    requires { PlaneNear p × Within reach x × Within reach y }
-    ensures { result ≡ rest_at p x y }
+// What is left of the offset of plane p over q's x and y for the height.
+fn rest(p: WholePlane, q: Place) -> i64
+    ensures { result ≡ rest_at p q.x q.y }
 {
-    p[3] - p[0] * x - p[1] * y
+    p.offset - p.normal.x * q.x - p.normal.y * q.y
 }
 
-// The faces one after another.
-pub(crate) fn tightest(coords: &[i32], faces: &[u16], x: i64, y: i64) -> Bounds
-    requires { Sound coords.now × (usable (touch_count coords.now) faces.now ≡ true) × Within reach x × Within reach y }
-    ensures { bounds_of result ≡ bounds (touch coords.now) x y unbounded (faces_in faces.now) }
+// The faces one after another, at q's x and y.
+pub(crate) fn tightest(list: &TouchList<'_>, faces: &[u16], q: Place) -> Bounds
+    requires { usable (touch_count list.now) faces.now ≡ true }
+    ensures { bounds_of result ≡ bounds (touch list.now) q.x q.y unbounded (faces_in faces.now) }
 {
     let mut b = Bounds {
         admits: true,
@@ -66,8 +63,8 @@ pub(crate) fn tightest(coords: &[i32], faces: &[u16], x: i64, y: i64) -> Bounds
         below: None,
     };
     for i in 0..table::room(faces) as u16 {
-        let p = plane_on(coords, table::face(faces, FaceNo(i)));
-        b = look_at_face(b, p[2], rest(p, x, y));
+        let p = plane_on(list, table::face(faces, FaceNo(i)));
+        b = look_at_face(b, p.normal.z, rest(p, q));
     }
     b
 }

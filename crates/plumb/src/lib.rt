@@ -15,9 +15,8 @@ ghost use Rattle.plumb.specs.Plumb.{rounded, plumbed_by, plumbed};
 
 use crate::bounds::{Bounds, tightest};
 use crate::fractions::Fraction;
-use hull::build::Built;
 use std::cmp::Ordering;
-use touches::{Point, Refusal};
+use touches::{Place, Point, Refusal};
 
 // The line misses, touches at a height, or enters at the upper height and leaves at the lower one.
 #[derive(Clone, Copy)]
@@ -25,7 +24,6 @@ pub enum Plumbed {
     Misses,
     Touches(f64),
     Through(f64, f64),
-    Refused(Refusal),
 }
 
 // Both numbers are held exactly and divided once. The bottom is above 0, so a zero is plus zero.
@@ -56,24 +54,19 @@ fn reading(b: Bounds) -> Plumbed
 }
 
 // With a table that is enough for every hull.
-fn plumb_in(faces: &mut [u16], coords: &[i32], x: i64, y: i64) -> Plumbed
+fn plumb_in(faces: &mut [u16], coords: &[i32], x: i64, y: i64) -> Result<Plumbed, Refusal>
     requires { enough most_touches ≤ room faces.old }
     ensures { result ≡ plumbed coords.now x y }
 {
-    match hull::build::build(coords, faces) {
-        Built::Refused(r) => Plumbed::Refused(r),
-        Built::Hull(m, _) => {
-            if !touches::place_in_range(Point { x, y, z: 0 }) {
-                return Plumbed::Refused(Refusal::because(Refusal::PLACE_OUT_OF_RANGE));
-            }
-            let end = table::numbers_of(m);
-            reading(tightest(coords, &faces[..end], x, y))
-        }
-    }
+    let list = touches::check(coords)?;
+    let hull = hull::build::build(coords, faces)?;
+    let q = Place::try_from(Point { x, y, z: 0 })?;
+    let end = table::numbers_of(hull.faces);
+    Ok(reading(tightest(&list, &faces[..end], q)))
 }
 
 // Refusals 1, 2, 3, 4, 7.
-pub fn plumb(coords: &[i32], x: i64, y: i64) -> Plumbed
+pub fn plumb(coords: &[i32], x: i64, y: i64) -> Result<Plumbed, Refusal>
     ensures { result ≡ plumbed coords.now x y }
 {
     let mut faces = [0u16; table::ENOUGH];
