@@ -8,13 +8,13 @@ ghost use Rattle.hull.specs.Whole.{read_at, Planed};
 
 use points::vectors::dot;
 use points::whole::{WholePlane, plane_on};
-use touches::{Place, TouchList};
+use touches::{Place, Point, TouchList};
 
 // V of the face whose plane p is, and q.
 pub(crate) fn read(p: WholePlane, q: Place) -> i64
     ensures { Number (2 * most_volume) (read_at p q) result }
 {
-    p.offset - dot(p.normal, q)
+    p.offset - dot(p.normal, Point::from(q))
 }
 
 // q is strictly in front of the face whose plane p is: edge-on does not count.
