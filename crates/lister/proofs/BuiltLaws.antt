@@ -24,13 +24,6 @@ use Rattle.hull.proofs.Inversion.{Inverted, inverted}
 use Rattle.lister.specs.Listing.{refused_line, hull_line, face_lines, answer, faces_of, built_text, hull_text}
 use Rattle.lister.proofs.FaceLaws.{lines_after}
 
--- what the building call promises of a table with room for every hull
-pub record Asked (cs : List ℤ) (a : Result Hull Refusal) (after : List ℕ) : Type 0 where
-  pub old : List ℕ
-  pub wide : room old ≡ enough most_touches
-  pub answer : a ≡ built cs old
-  pub table : after ≡ table_after a (hull_of cs) old
-
 -- which answers as one with room for 1,344
 as_with_most : (cs : List ℤ) (n : ℕ) → n ≡ enough most_touches → if_accepted (checked cs) (built_from (touch cs) n (hull_of cs)) ≡ answer cs
 as_with_most cs n w = list (checked cs) refl
@@ -43,29 +36,27 @@ as_with_most cs n w = list (checked cs) refl
     list (Ok l) e = hull (accepted_sound cs l e).sound (hull_of cs) refl
     list (Err r) e = refl
 
-module _ {cs : List ℤ} {a : Result Hull Refusal} {after : List ℕ} (k : Asked cs a after) where
-  told : a ≡ answer cs
-  told = k.answer ∙ as_with_most cs (room k.old) k.wide
-
+-- what the building call promises of a table with room for every hull
+module _ (cs : List ℤ) (old : List ℕ) {a : Result Hull Refusal} {after : List ℕ} (answered : a ≡ built cs old) (table : after ≡ table_after a (hull_of cs) old) (wide : room old ≡ enough most_touches) where
   text_of : {b : Result Hull Refusal} → a ≡ b → hull_text cs ≡ built_text b (faces_of (hull_of cs))
   unfolding hull_text
-  text_of f = ap (λ (c : Result Hull Refusal). built_text c (faces_of (hull_of cs))) (sym told ∙ f)
+  text_of f = ap (λ (c : Result Hull Refusal). built_text c (faces_of (hull_of cs))) (sym (answered ∙ as_with_most cs (room old) wide) ∙ f)
 
   pub refused_text : {x : Refusal} → a ≡ Err x → hull_text cs ≡ refused_line x
   refused_text f = text_of f
 
   module _ {u : Hull} (f : a ≡ Ok u) where
     abbrev faces : List Face
-    faces = (inverted cs k.old (sym k.answer ∙ f)).0
+    faces = (inverted cs old (sym answered ∙ f)).0
 
-    i : Inverted cs k.old u.faces u.volume faces
-    i = (inverted cs k.old (sym k.answer ∙ f)).1
+    i : Inverted cs old u.faces u.volume faces
+    i = (inverted cs old (sym answered ∙ f)).1
 
-    after_is : after ≡ lay 0 (lent faces) k.old
-    after_is = k.table ∙ ap (λ (b : Result Hull Refusal). table_after b (hull_of cs) k.old) k.answer ∙ i.table
+    after_is : after ≡ lay 0 (lent faces) old
+    after_is = table ∙ ap (λ (b : Result Hull Refusal). table_after b (hull_of cs) old) answered ∙ i.table
 
     lines : face_lines (take u.faces (faces_in after)) ≡ face_lines (faces_of (hull_of cs))
-    lines = lines_after faces k.old i.count after_is ∙ ap (λ (o : Option (List Face)). face_lines (faces_of o)) (sym i.is)
+    lines = lines_after faces old i.count after_is ∙ ap (λ (o : Option (List Face)). face_lines (faces_of o)) (sym i.is)
 
     pub hull_text_lem : hull_text cs ≡ hull_line u.faces u.volume ++ face_lines (take u.faces (faces_in after))
     hull_text_lem = text_of f ∙ ap (λ (l : List ℕ). hull_line u.faces u.volume ++ l) (sym lines)

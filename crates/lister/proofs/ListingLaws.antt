@@ -19,20 +19,13 @@ unfolding listing
 many_text r h = rw (lt-leb (length r) most_bytes h)
 
 -- what the reading call promises of a coordinate list with room for 64 touches
-pub record Asked (r : List ℕ) (a : Result ℕ Refusal) (read : List ℤ) : Type 0 where
-  pub few : length r ≤ most_bytes
-  pub old : List ℤ
-  pub wide : length old ≡ most_touches * 3
-  pub gives : ReadGives plain_version r old a read
-
-module _ {r : List ℕ} {a : Result ℕ Refusal} {read : List ℤ} (k : Asked r a read) where
+module _ {r : List ℕ} {a : Result ℕ Refusal} {old read : List ℤ} (few : length r ≤ most_bytes) (gives : ReadGives plain_version r old a read) (wide : length old ≡ most_touches * 3) where
   text_of : {b : Result ℕ Refusal} → a ≡ b → listing r ≡ read_text r b
   unfolding listing
-  text_of f = rw (le-leb (length r) most_bytes k.few) (ap (read_text r) (sym (k.gives.answer ∙ ap (read_of plain_version r) k.wide) ∙ f))
+  text_of f = rw (le-leb (length r) most_bytes few) (ap (read_text r) (sym (gives.answer ∙ ap (read_of plain_version r) wide) ∙ f))
 
   pub refused_text : {x : Refusal} → a ≡ Err x → listing r ≡ refused_line x
   refused_text f = text_of f
 
-  module _ {n : ℕ} (f : a ≡ Ok n) where
-    pub touches_text : listing r ≡ hull_text (take (n * 3) read)
-    touches_text = text_of f ∙ ap hull_text (sym (read_touches k.gives f))
+  pub touches_text : {n : ℕ} → a ≡ Ok n → listing r ≡ hull_text (take (n * 3) read)
+  touches_text f = text_of f ∙ ap hull_text (sym (read_touches gives f))

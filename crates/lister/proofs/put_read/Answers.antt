@@ -1,5 +1,5 @@
 use Rattle.std.proofs.Common.{Err, ◌≡◌, refl, rules}
-use Rattle.lister.proofs.ListingLaws.{many_text, Asked, refused_text, touches_text}
+use Rattle.lister.proofs.ListingLaws.{many_text, refused_text, touches_text}
 use Rattle.lister.proofs.put_read.Goals as goal
 
 pub returns-then-bytes-gt-MOST_BYTES : goal.returns-then-bytes-gt-MOST_BYTES
@@ -7,11 +7,8 @@ returns-then-bytes-gt-MOST_BYTES c = (many_text c.args.bytes.now (search rules),
 
 pub returns-in_err-n : goal.returns-in_err-n
 returns-in_err-n c =
-    let k : Asked c.args.bytes.now c.read.result c.read.new.coords = record { few = search rules; old = _; wide = refl; gives = c.read.ensures } in
     let e : c.from_residual.result ≡ Err c.in_err-n.field-0.0 = search rules in
-    rw e (refused_text k c.in_err-n.was, refl)
+    rw e (refused_text (search rules) c.read.ensures refl c.in_err-n.was, refl)
 
 pub returns : goal.returns
-returns c =
-    let k : Asked c.args.bytes.now c.read.result c.read.new.coords = record { few = search rules; old = _; wide = refl; gives = c.read.ensures } in
-    rw (touches_text k c.in_ok-n.was) c.put_built.ensures
+returns c = rw (touches_text (search rules) c.read.ensures refl c.in_ok-n.was) c.put_built.ensures
