@@ -1,5 +1,5 @@
 -- The plumb line's call on a list that is not flat, at x and y in range: it gives the hull's reading, and the placing call agrees.
-use mathlib.Core.Path.{◌≡◌, refl, sym, ap, ap₂, ◌∙◌}
+use mathlib.Core.Path.{◌≡◌, sym, ap, ap₂, ◌∙◌}
 use mathlib.Core.Logic.{◌↔◌, ◌⊎◌, inl, inr}
 use mathlib.Core.Bool.{true, ◌&&◌}
 use mathlib.Core.List.{List}
@@ -37,7 +37,7 @@ module _ {cs : List ℤ} (d : Sound cs) {h : List Face} (e : hull_of cs ≡ some
   line = plumb (touch cs) h x y
 
   pub call_plumbs : plumbed cs x y ≡ given line
-  call_plumbs = sound_plumbed cs x y d ∙ sym (over_read cs x y e w refl)
+  call_plumbs = sound_plumbed cs x y d ∙ sym (over_read cs x y e w)
 
   -- the tightest bounds
   abbrev pub lower : Fraction

@@ -78,6 +78,6 @@ pub fraction_total : IsTotalOrder fraction_cmp
 fraction_total = record {
   antisymm = λ s t. turned (s.top *ℤ t.bottom) (t.top *ℤ s.bottom);
   trans = λ s t u h k. compared_less s.top s.bottom u.top u.bottom Less Equal Greater
-      (le_lt s.top s.bottom t.top t.bottom u.top u.bottom s.ranged.proper t.ranged.proper u.ranged.proper (<→≤ (said_less s.top s.bottom t.top t.bottom h)) (said_less t.top t.bottom u.top u.bottom k));
-  congr = λ s t u h. alike s.top s.bottom t.top t.bottom u.top u.bottom s.ranged.proper t.ranged.proper u.ranged.proper (said_equal s.top s.bottom t.top t.bottom h);
+      (le_lt s.top s.bottom t.top t.bottom u.top u.bottom s.held.proper t.held.proper u.held.proper (<→≤ (said_less s.top s.bottom t.top t.bottom h)) (said_less t.top t.bottom u.top u.bottom k));
+  congr = λ s t u h. alike s.top s.bottom t.top t.bottom u.top u.bottom s.held.proper t.held.proper u.held.proper (said_equal s.top s.bottom t.top t.bottom h);
 }

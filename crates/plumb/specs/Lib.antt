@@ -1,4 +1,4 @@
-pub mod Ranged
+pub mod Held
 pub mod Fractions
 pub mod FractionOrder
 pub mod Bounds

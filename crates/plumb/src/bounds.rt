@@ -2,9 +2,11 @@
 ghost use Rattle.std.specs.Prelude.{◌≡◌, true};
 ghost use Rattle.laws.specs.Numbers.{Within};
 ghost use Rattle.touches.specs.Touches.{touch, touch_count};
-ghost use Rattle.volume.specs.Volume.{most_volume, most_normal};
+ghost use Rattle.volume.specs.Volume.{most_normal};
 ghost use Rattle.rules.specs.Plumb.{bounded, unbounded, bounds};
 ghost use Rattle.table.specs.Table.{faces_in, usable};
+ghost use Rattle.points.specs.Sizes.{Number};
+ghost use Rattle.plumb.specs.Held.{most_rest};
 ghost use Rattle.plumb.specs.Bounds.{bounds_of, rest_at};
 
 use crate::fractions::Fraction;
@@ -22,7 +24,7 @@ pub(crate) struct Bounds {
 // One face: looking up it bounds the height above, looking down below; upright it admits a line that is on or behind it.
 // The first of equals stays: `min` answers its own side where both are equal, and `max` the other.
 fn look_at_face(b: Bounds, facing: i64, rest: i64) -> Bounds
-    requires { Within most_normal facing × Within most_volume rest }
+    requires { Within most_normal facing × Within most_rest rest }
     ensures { bounds_of result ≡ bounded facing rest (bounds_of b) }
 {
     if facing == 0 {
@@ -47,7 +49,7 @@ fn look_at_face(b: Bounds, facing: i64, rest: i64) -> Bounds
 
 // What is left of the offset of plane p over q's x and y for the height.
 fn rest(p: WholePlane, q: Place) -> i64
-    ensures { result ≡ rest_at p q.x q.y }
+    ensures { Number most_rest (rest_at p q.x q.y) result }
 {
     p.offset - p.normal.x * q.x - p.normal.y * q.y
 }

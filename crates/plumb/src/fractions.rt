@@ -1,7 +1,7 @@
 // Quotients of two whole numbers, the bottom one above 0, and their order: no product is made, as it would not fit.
 ghost use Rattle.std.specs.Prelude.{◌≡◌, ◌<◌, pos};
 ghost use Rattle.laws.specs.Fractions.{compared};
-ghost use Rattle.plumb.specs.Ranged.{Ranged};
+ghost use Rattle.plumb.specs.Held.{Held};
 
 use std::cmp::Ordering;
 
@@ -9,19 +9,20 @@ use std::cmp::Ordering;
 pub(crate) struct Fraction {
     pub(crate) top: i64,
     pub(crate) bottom: i64,
-    ghost ranged: { Ranged (record { top = top; bottom = bottom }) },
+    ghost held: { Held (record { top = top; bottom = bottom }) },
 }
 
 impl Fraction {
     ghost use Rattle.std.specs.Prelude.{◌≢◌};
     ghost use Rattle.laws.specs.Numbers.{Within};
-    ghost use Rattle.volume.specs.Volume.{most_volume, most_normal};
+    ghost use Rattle.volume.specs.Volume.{most_normal};
     ghost use Rattle.rules.specs.Plumb.{height};
     ghost use Rattle.plumb.specs.Fractions.{ratio};
+    ghost use Rattle.plumb.specs.Held.{most_rest};
 
     // top / bottom, both turned where the bottom is below 0.
     pub(crate) fn new(top: i64, bottom: i64) -> Self
-        requires { (bottom ≢ pos 0) × Within most_volume top × Within most_normal bottom }
+        requires { (bottom ≢ pos 0) × Within most_rest top × Within most_normal bottom }
         ensures { ratio result ≡ height bottom top }
     {
         if bottom < 0 {

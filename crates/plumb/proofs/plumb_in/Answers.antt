@@ -1,5 +1,4 @@
-use mathlib.Core.Path.{◌≡◌, refl, sym, ap, ap₂, subst, ◌∙◌}
-use mathlib.Core.Bool.{Bool, true, ◌&&◌}
+use mathlib.Core.Path.{◌≡◌, sym, ap, ◌∙◌}
 use mathlib.Core.List.{List}
 use Prim.Native.Nat.{ℕ, ◌*◌}
 use lib.IntN.{ℤ, pos}
@@ -7,49 +6,57 @@ use lib.ListN.{take}
 use mir.Syntax.{w64}
 use mir.Val.{SFits}
 use mir.ValLaws.{to_z-of_z}
-use Rattle.touches.specs.Limits.{in_range, place_in_range}
+use Rattle.std.specs.Prelude.{Ok, Err}
+use Rattle.std.proofs.Common.{rules}
 use Rattle.touches.specs.Touches.{touch_count}
-use Rattle.touches.proofs.SoundLaws.{place_near}
+use Rattle.touches.specs.Check.{checked, place_checked}
+use Rattle.touches.proofs.SoundLaws.{accepted_sound, place_passed}
 use Rattle.rules.specs.Heights.{over}
 use Rattle.table.specs.Table.{stride, lent, faces_in, usable}
 use Rattle.points.proofs.NumberLaws.{rd}
 use Rattle.hull.proofs.CallLaws.{hull_back, hull_usable}
 use Rattle.plumb.proofs.OwnRoomLaws.{Filled, own_refused, own_filled}
-use Rattle.plumb.proofs.PlumbedLaws.{column, sound_plumbed, hull_read, over_far, over_read}
+use Rattle.plumb.proofs.PlumbedLaws.{sound_plumbed, hull_read, over_place}
 use Rattle.plumb.proofs.plumb_in.Goals as goal
 
--- the part of the table that is read
+-- the list that was checked, and the part of the table that is read
+same : {cs l : List ℤ} → Ok l ≡ checked cs → l ≡ cs
+same {cs} {l} e = (accepted_sound cs l (sym e)).same
+
 part : {cs : List ℤ} {n : ℕ} {t : List ℕ} (f : Filled cs n t) {end : ℕ} → end ≡ n * stride → take end t ≡ lent f.faces
 part {t = t} f e = ap (λ (k : ℕ). take k t) e ∙ f.part
 
--- the test of x and y
-tested : {x y : ℤ} {t : Bool} → SFits w64 x → SFits w64 y → t ≡ place_in_range (over (rd x) (rd y) (pos 0)) → in_range x && in_range y ≡ t
-tested {x} {y} f g e = sym (column x y) ∙ sym (ap₂ (λ (x y : ℤ). place_in_range (over x y (pos 0))) (to_z-of_z w64 x f) (to_z-of_z w64 y g)) ∙ sym e
+-- the place at x and y as the machine holds them
+at : {x y : ℤ} → SFits w64 x → SFits w64 y → over (rd x) (rd y) (pos 0) ≡ over x y (pos 0)
+at {x} {y} f g = λ i. over (to_z-of_z w64 x f i) (to_z-of_z w64 y g i) (pos 0)
 
-pub returns-then-not-place_in_range : goal.returns-then-not-place_in_range
-returns-then-not-place_in_range c =
+pub returns-in_err-hull : goal.returns-in_err-hull
+returns-in_err-hull c =
     let a = c.args in
-    let cs = a.coords.now in
-    let f = own_filled cs a.faces.now c.in-Hull.ensures.answer c.in-Hull.ensures.table refl in
-    over_far cs a.x a.y f.is (tested c.ranges.x c.ranges.y c.if-not-place_in_range.ensures) c.because.ensures ∙ sym (sound_plumbed cs a.x a.y f.sound)
+    let e : c.from_residual-in_err-hull.result ≡ Err c.in_err-hull.field-0.0 = search rules in
+    e ∙ own_refused a.coords.now a.faces.now c.requires a.x a.y (sym c.in_err-hull.ensures.answer)
+
+pub returns-in_err-q : goal.returns-in_err-q
+returns-in_err-q c =
+    let a = c.args in
+    let f = own_filled a.coords.now a.faces.now c.in_ok-hull.ensures.answer c.in_ok-hull.ensures.table in
+    let e : c.from_residual-in_err-q.result ≡ Err c.in_err-q.field-0.0 = search rules in
+    e ∙ over_place a.coords.now a.x a.y f.is (c.in_err-q.ensures ∙ ap place_checked (at c.ranges.x c.ranges.y)) ∙ sym (sound_plumbed a.coords.now a.x a.y f.sound)
 
 pub tightest-requires : goal.tightest-requires
 tightest-requires c =
     let a = c.args in
     let cs = a.coords.now in
-    let f = own_filled cs a.faces.now c.in-Hull.ensures.answer c.in-Hull.ensures.table refl in
-    let n = place_near (over (rd a.x) (rd a.y) (pos 0)) (sym c.if-not-place_in_range.ensures) in
-    (f.sound, subst (λ (t : List ℕ). usable (touch_count cs) t ≡ true) (sym (part f c.numbers_of-end.ensures)) (hull_usable f.sound f.is), n.x, n.y)
+    let f = own_filled cs a.faces.now c.in_ok-hull.ensures.answer c.in_ok-hull.ensures.table in
+    (λ i. usable (touch_count (same {cs = cs} c.in_ok-list.ensures i)) (part f c.numbers_of-end.ensures i)) ∙ hull_usable f.sound f.is
 
-pub returns-in-Refused : goal.returns-in-Refused
-returns-in-Refused c = let a = c.args in own_refused a.coords.now a.faces.now c.requires a.x a.y (sym c.in-Refused.ensures.answer)
-
-pub returns-else-not-place_in_range : goal.returns-else-not-place_in_range
-returns-else-not-place_in_range c =
+pub returns : goal.returns
+returns c =
     let a = c.args in
     let cs = a.coords.now in
-    let f = own_filled cs a.faces.now c.in-Hull.ensures.answer c.in-Hull.ensures.table refl in
-    let t = c.tightest in
-    over_read cs a.x a.y f.is (tested c.ranges.x c.ranges.y c.if-not-place_in_range.ensures)
-    (hull_read cs a.x a.y t.result c.reading.ensures t.ensures (to_z-of_z w64 a.x c.ranges.x) (to_z-of_z w64 a.y c.ranges.y) (ap faces_in (part f c.numbers_of-end.ensures) ∙ hull_back f.sound f.is))
-    ∙ sym (sound_plumbed cs a.x a.y f.sound)
+    let f = own_filled cs a.faces.now c.in_ok-hull.ensures.answer c.in_ok-hull.ensures.table in
+    let e = c.in_ok-q.ensures ∙ ap place_checked (at c.ranges.x c.ranges.y) in
+    let w = (place_passed (over a.x a.y (pos 0)) c.in_ok-q.q (sym e)).0 in
+    let h = ap faces_in (part f c.numbers_of-end.ensures) ∙ hull_back f.sound f.is in
+    ap Ok (hull_read cs a.x a.y c.tightest.result c.reading.ensures c.tightest.ensures (same c.in_ok-list.ensures) w h)
+    ∙ over_place cs a.x a.y f.is e ∙ sym (sound_plumbed cs a.x a.y f.sound)

@@ -23,10 +23,10 @@ use Rattle.plumb.proofs.fractions.FractionOrd.cmp.Goals as goal
 -- a fraction's whole part and remainder as they are computed
 parts : (s : Fraction) {p r : ℤ} → p ≡ int_div_euclid (rd s.top) (rd s.bottom) → r ≡ int_rem_euclid (rd s.top) (rd s.bottom) → Parts s.top s.bottom p r
 parts s {p} {r} e f =
-    let a = passed tt s.ranged.fits.top in
-    let b = passed tt s.ranged.fits.bottom in
+    let a = passed tt s.held.top in
+    let b = passed tt s.held.bottom in
     subst (λ (z : ℤ). Parts s.top s.bottom z r) (sym (e ∙ ap₂ int_div_euclid a b))
-    (subst (λ (z : ℤ). Parts s.top s.bottom (int_div_euclid s.top s.bottom) z) (sym (f ∙ ap₂ int_rem_euclid a b)) (parts_euclid s.top s.bottom s.ranged.proper))
+    (subst (λ (z : ℤ). Parts s.top s.bottom (int_div_euclid s.top s.bottom) z) (sym (f ∙ ap₂ int_rem_euclid a b)) (parts_euclid s.top s.bottom s.held.proper))
 
 -- a number that is not below 0 as a natural
 natural : {z : ℤ} {u : ℕ} → u ≡ unsigned_abs (rd z) → SFits w64 z → pos 0 ≤ℤ z → pos u ≡ z
@@ -42,9 +42,9 @@ returns-in-Equal c =
     let n = parts t c.div_euclid.ensures c.rem_euclid-in-Equal.ensures.value in
     let e = sym (to_z-of_z w64 p (search rules)) ∙ int_ranked (rd p) (rd q) Equal c.in-Equal.ensures ∙ to_z-of_z w64 q (search rules) in
     let r = natural c.unsigned_abs.ensures.value (search rules) m.over in
-    let b = natural c.unsigned_abs-in-Equal.ensures.value (search rules) (<→≤ s.ranged.proper) in
+    let b = natural c.unsigned_abs-in-Equal.ensures.value (search rules) (<→≤ s.held.proper) in
     let l = natural c.unsigned_abs-in-Equal-2.ensures.value (search rules) n.over in
-    let d = natural c.unsigned_abs-in-Equal-3.ensures.value (search rules) (<→≤ t.ranged.proper) in
+    let d = natural c.unsigned_abs-in-Equal-3.ensures.value (search rules) (<→≤ t.held.proper) in
     c.compare_unsigned.ensures ∙ (λ i. compared (r i) (b i) (l i) (d i) Less Equal Greater) ∙ sym (whole_same m n Less Equal Greater e)
 
 pub returns-in_default : goal.returns-in_default
