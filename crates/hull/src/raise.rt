@@ -20,10 +20,9 @@ impl Work<'_> {
         self.count = put_start(self.table, list, s);
         self.put_planes(list, 0);
         for k in 0..list.count() as u16 {
-            if s.has(TouchNo(k)) {
-                continue;
+            if !s.has(TouchNo(k)) {
+                self.step(list, TouchNo(k));
             }
-            self.step(list, TouchNo(k));
         }
     }
 }

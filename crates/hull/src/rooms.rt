@@ -63,8 +63,9 @@ pub(crate) fn build_from(faces: &mut [u16], list: &TouchList<'_>, s: Start) -> R
     requires { Begun list.now (start_of s) }
     ensures { Builds list.now (hull_of list.now) faces.old result faces.new }
 {
-    if FEW < list.count() {
-        return build_in::<ALL_FACES, ALL_MARKS>(faces, list, s);
+    if list.count() <= FEW {
+        build_in::<FEW_FACES, FEW_MARKS>(faces, list, s)
+    } else {
+        build_in::<ALL_FACES, ALL_MARKS>(faces, list, s)
     }
-    build_in::<FEW_FACES, FEW_MARKS>(faces, list, s)
 }

@@ -50,8 +50,8 @@ impl Work<'_> {
         }
     }
 
-    // The faces that are not visible from k stay, at the front of the table, with their planes; the visible ones go to seen: how many
-    // they are. Each keep their order, and nothing moves before the first visible face.
+    // The faces that are not visible from k stay, with their planes, and the visible ones go to seen, each in their order: how many
+    // are visible. Nothing moves before the first of them.
     fn part(&mut self, list: &TouchList<'_>, k: TouchNo) -> usize
         requires { Ready list.now (take self.old.count self.old.table.now) k.0 × Planed list.now self.old.count self.old.table.now self.old.planes.now }
         ensures faces { PartOf list.now (take self.old.count self.old.table.now) k.0 self.old.table.now

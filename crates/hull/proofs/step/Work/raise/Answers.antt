@@ -5,6 +5,7 @@ use Rattle.border.proofs.MarkLaws.{fresh_later}
 use Rattle.hull.proofs.WholeLaws.{planed_none}
 use Rattle.hull.proofs.RaiseLaws.{known_start, start_faces_lem, start_room, taken_start, taken_skip, taken_ready, step_room, taken_step}
 use Rattle.hull.specs.Inner.{Roomy}
+use Rattle.hull.proofs.step.Work.raise.Goals.{then-not-has, else-not-has}
 use Rattle.hull.proofs.step.Work.raise.Goals as goal
 
 pub put_start-self-requires : goal.put_start-self-requires
@@ -28,11 +29,6 @@ loop-k-init c =
     let p = c.put_planes.ensures in
     record { taken = rw (p.same.0, p.same.1) (taken_start c.put_start-self.ensures (rw p.same.0 at p.planes)); long = refl; width = refl; fresh = rw p.same.2 c.requires.2 }
 
-pub loop-k-preserved-then-has : goal.loop-k-preserved-then-has
-loop-k-preserved-then-has c =
-    let l = c.loop-k.invariant in
-    record { taken = taken_skip l.taken (sym c.has.ensures ∙ c.if-has.true); long = l.long; width = l.width; fresh = fresh_later l.fresh (omega arith) }
-
 pub step-requires : goal.step-requires
 step-requires c =
     let h = c.requires in
@@ -41,10 +37,14 @@ step-requires c =
     let w : c.loop-k.self.marks.width ≡ touch_count c.args.list.now = l.width ∙ ap (λ (m : Marks). m.width) p.2 ∙ h.1.width in
     let e : length c.loop-k.self.table.now ≡ length c.args.self.now.table.now = l.long ∙ ap length p.0 ∙ c.put_start-self.auto.table in
     let r : Roomy c.args.list.now (length c.loop-k.self.table.now) c.args.self.now.marks.width = rw e h.1 in
-    (taken_ready l.taken h.0 (omega arith) (omega arith), l.taken.planed, w, l.fresh, step_room l.taken (sym c.has.ensures ∙ c.if-has.false) h.0 (omega arith) r)
+    (taken_ready l.taken h.0 (omega arith) (omega arith), l.taken.planed, w, l.fresh, step_room l.taken (sym c.has.ensures ∙ c.if-not-has.true) h.0 (omega arith) r)
 
 pub loop-k-preserved : goal.loop-k-preserved
 loop-k-preserved c =
     let l = c.loop-k.invariant in
-    let q = c.step.ensures in
-    record { taken = taken_step l.taken (sym c.has.ensures ∙ c.if-has.false) q.faces q.planes; long = q.same_room ∙ l.long; width = q.same_width ∙ l.width; fresh = q.marks }
+    elim c.if-not-has.branch [
+      | then-not-has w ↦ rw w.self-is (
+        let q = w.step.ensures in
+        record { taken = taken_step l.taken (sym c.has.ensures ∙ w.if-not-has.true) q.faces q.planes; long = q.same_room ∙ l.long; width = q.same_width ∙ l.width; fresh = q.marks })
+      | else-not-has w ↦ rw w.self-is (record { taken = taken_skip l.taken (sym c.has.ensures ∙ w.if-not-has.false); long = l.long; width = l.width; fresh = fresh_later l.fresh (omega arith) })
+    ]
