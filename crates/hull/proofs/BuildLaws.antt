@@ -64,11 +64,8 @@ module _ {cs : List ℤ} {s : Four} (b : Begun cs s) {m : ℕ} {table : List Fac
   front_count = t.count ∙ ap length (sym t.faces)
 
   -- what writing them asks
-  pub front_asked : Sound cs → m ≤ length planes → (0 < touch_count cs) × Planed cs (length (take m table)) (take m table) planes × (length (take m table) ≤ length planes) × (length (take m table) ≤ most_faces)
-  front_asked d h = (hull_touched cs front_hull, planed, omega (arith, front_count), hull_most d front_hull)
-    where
-      planed : Planed cs (length (take m table)) (take m table) planes
-      planed = record { each = λ j l. let i : j < m = omega (arith, front_count) in record { is = (t.planed.each j i).is ∙ ap (plane_on (touch cs)) (sym (get_or-take m table j [] i)) } }
+  pub front_asked : Sound cs → (0 < touch_count cs) × Planed cs m table planes × (m ≤ most_faces)
+  front_asked d = (hull_touched cs front_hull, t.planed, omega (arith, front_count, hull_most d front_hull))
 
   -- and what it gives
   pub front_builds : {old after : List ℕ} {r : Result Hull Refusal} → Builds cs (some (take m table)) old r after → Builds cs (hull_of cs) old r after

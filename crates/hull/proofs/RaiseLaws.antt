@@ -24,8 +24,7 @@ use Rattle.cover.proofs.Theorems.{after_few}
 use Rattle.hull.specs.Start.{start_of, started_of, KnownStart}
 use Rattle.hull.specs.Build.{hull_of}
 use Rattle.hull.specs.Whole.{Planed}
-use Rattle.hull.specs.Inner.{Ready, Begun, Taken, Tables}
-use Rattle.border.specs.declared.marks.Marks.{Marks}
+use Rattle.hull.specs.Inner.{Ready, Begun, Taken, Roomy}
 use Rattle.points.specs.Whole.{Plane}
 use Rattle.hull.specs.declared.start.Start.{Start}
 
@@ -50,20 +49,11 @@ module _ {cs : List ℤ} {s : Four} {k m : ℕ} {table : List Face} {planes : Li
     step_is : step (touch cs) (take m table) k ≡ after (touch cs) s (others s (k + 1))
     step_is = ap (λ (h : List Face). step (touch cs) h k) t.faces ∙ sym (after_step (touch cs) s k e)
 
-    pub step_room : {seen : List Face} {marks : Marks} → Begun cs s → k < touch_count cs → Tables cs table planes seen marks → length (step (touch cs) (take m table) k) ≤ length table
+    pub step_room : {w : ℕ} → Begun cs s → k < touch_count cs → Roomy cs (length table) w → length (step (touch cs) (take m table) k) ≤ length table
     step_room b l w = omega (arith, ap length step_is, after_room b {k = k + 1} (omega arith), w.room)
 
     pub taken_step : {r : ℕ} {next : List Face} {beside : List Plane} → Laid 0 (step (touch cs) (take m table) k) table r next → Planed cs r next beside → Taken cs s (k + 1) r next beside
     taken_step g p = record { count = omega (arith, g.next) ∙ ap length step_is; faces = laid_first g ∙ step_is; planed = p }
-
--- tables that building works in have room for the faces that are taken
-pub taken_room : {cs : List ℤ} {s : Four} {k m : ℕ} {table after seen : List Face} {planes beside : List Plane} {marks : Marks} → Begun cs s → Tables cs table planes seen marks → Taken cs s k m after beside → k ≤ touch_count cs → m ≤ length table
-taken_room b w t l = omega (arith, t.count, after_room b l, w.room)
-
--- the tables keep their lengths
-pub tables_kept : {cs : List ℤ} {table table' seen seen' : List Face} {planes planes' : List Plane} {marks marks' : Marks} → Tables cs table planes seen marks
-    → length table' ≡ length table → length planes' ≡ length planes → length seen' ≡ length seen → marks'.width ≡ marks.width → Tables cs table' planes' seen' marks'
-tables_kept t a b c d = record { room = omega (arith, t.room, a); planes_long = omega (arith, t.planes_long, a, b); seen_long = omega (arith, t.seen_long, a, c); mark_width = d ∙ t.mark_width }
 
 -- ---- the start
 start_none : (o : Option Four) → None ≡ started_of o → o ≡ none
@@ -77,7 +67,7 @@ module _ (cs : List ℤ) {n : ℕ} (c : n ≡ touch_count cs) where
 pub known_start : {cs : List ℤ} (f : Start) → Begun cs (start_of f) → KnownStart (touch_count cs) f
 known_start {cs} f b = let o = start_order (touch cs) (touch_count cs) b.begins in record { p = omega (arith, o); q = omega (arith, o); r = omega (arith, o); s = omega (arith, o) }
 
-pub start_room : {cs : List ℤ} {s : Four} {table seen : List Face} {planes : List Plane} {marks : Marks} → Begun cs s → Tables cs table planes seen marks → 4 ≤ length table
+pub start_room : {cs : List ℤ} {s : Four} {n w : ℕ} → Begun cs s → Roomy cs n w → 4 ≤ n
 unfolding build
 start_room b w = omega (arith, after_room b {k = 0} (omega arith), w.room)
 

@@ -17,7 +17,6 @@ use Rattle.rules.specs.Building.{seen, unseen, after, others}
 use Rattle.rules.specs.Demands.{FaceOf}
 use Rattle.cover.specs.Room.{enough}
 use Rattle.table.specs.Table.{room}
-use Rattle.border.specs.declared.marks.Marks.{Marks}
 use Rattle.points.specs.Whole.{Plane}
 use Rattle.hull.specs.Whole.{Planed}
 use Rattle.hull.specs.Build.{built_from, table_after}
@@ -51,12 +50,10 @@ pub record Taken (cs : List ℤ) (s : Start) (k m : ℕ) (table : List Face) (pl
   pub faces : take m table ≡ after (touch cs) s (others s k)
   pub planed : Planed cs m table planes
 
--- tables to build in for the touches cs, with room for every face list of every step: one length for all but the marks
-pub record Tables (cs : List ℤ) (table : List Face) (planes : List Plane) (seen : List Face) (marks : Marks) : Type 0 where
-  pub room : enough (touch_count cs) ≤ length table
-  pub planes_long : length planes ≡ length table
-  pub seen_long : length seen ≡ length table
-  pub mark_width : marks.width ≡ touch_count cs
+-- tables of n faces, with marks for w touches, have room for every face list of every step over the touches cs
+pub record Roomy (cs : List ℤ) (n w : ℕ) : Type 0 where
+  pub room : enough (touch_count cs) ≤ n
+  pub width : w ≡ touch_count cs
 
 -- what building gives and leaves in the lent table: one contract, whatever tables it works in; h is the face list
 pub record Builds (cs : List ℤ) (h : Maybe (List Face)) (old : List ℕ) (r : Result Hull Refusal) (after : List ℕ) : Type 0 where

@@ -1,5 +1,5 @@
 // The hull of a touch list, into a lent face table.
-ghost use Rattle.std.specs.Prelude.{◌≡◌, ◌<◌, ◌≤◌, length};
+ghost use Rattle.std.specs.Prelude.{◌≡◌, ◌<◌, ◌≤◌, take};
 ghost use Rattle.std.proofs.Math.Option.{some};
 ghost use Rattle.touches.specs.Limits.{most_faces};
 ghost use Rattle.touches.specs.Touches.{touch, touch_count};
@@ -10,9 +10,9 @@ ghost use Rattle.hull.specs.Build.{hull_of, built, table_after};
 
 use crate::rooms::build_from;
 use crate::start::find_start;
+use crate::step::Work;
 use crate::whole::read;
 use points::touch::touch;
-use points::whole::WholePlane;
 use touches::{Refusal, TouchList, TouchNo};
 
 // The hull of a touch list: how many faces it has, and six times its volume.
@@ -23,36 +23,33 @@ pub struct Hull {
 }
 
 // The sum of V(face, touch 0).
-fn six_volume(list: &TouchList<'_>, hull: &[[u16; 3]], planes: &[WholePlane]) -> i64
-    requires { (0 < touch_count list.now) × Planed list.now (length hull.now) hull.now planes.now
-        × (length hull.now ≤ length planes.now) × (length hull.now ≤ most_faces) }
-    ensures { result ≡ volume (touch list.now) hull.now }
+fn six_volume(list: &TouchList<'_>, work: &Work) -> i64
+    requires { (0 < touch_count list.now) × Planed list.now work.now.count work.now.table.now work.now.planes.now × (work.now.count ≤ most_faces) }
+    ensures { result ≡ volume (touch list.now) (take work.now.count work.now.table.now) }
 {
     let q = touch(list, TouchNo(0));
     let mut sum: i64 = 0;
-    for &p in &planes[..hull.len()] {
+    for &p in &work.planes[..work.count] {
         sum += read(p, q);
     }
     sum
 }
 
-// The hull into the lent table, or refusal 5.
+// The face list into the lent table, or refusal 5.
 pub(crate) fn write_hull(
     faces: &mut [u16],
     list: &TouchList<'_>,
-    hull: &[[u16; 3]],
-    planes: &[WholePlane],
+    work: &Work,
 ) -> Result<Hull, Refusal>
-    requires { (0 < touch_count list.now) × Planed list.now (length hull.now) hull.now planes.now
-        × (length hull.now ≤ length planes.now) × (length hull.now ≤ most_faces) }
-    ensures { Builds list.now (some hull.now) faces.old result faces.new }
+    requires { (0 < touch_count list.now) × Planed list.now work.now.count work.now.table.now work.now.planes.now × (work.now.count ≤ most_faces) }
+    ensures { Builds list.now (some (take work.now.count work.now.table.now)) faces.old result faces.new }
 {
-    if !table::put_faces(faces, hull) {
+    if !table::put_faces(faces, &work.table[..work.count]) {
         return Err(Refusal::FaceTableTooSmall);
     }
     Ok(Hull {
-        faces: hull.len() as u16,
-        volume: six_volume(list, hull, planes),
+        faces: work.count as u16,
+        volume: six_volume(list, work),
     })
 }
 

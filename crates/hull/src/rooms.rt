@@ -7,8 +7,8 @@ ghost use Rattle.hull.specs.Build.{hull_of};
 ghost use Rattle.hull.specs.Inner.{Begun, Builds};
 
 use crate::build::{Hull, write_hull};
-use crate::raise::raise;
 use crate::start::Start;
+use crate::step::Work;
 use border::Marks;
 use points::whole::WholePlane;
 use touches::{Point, Refusal, TouchList};
@@ -46,9 +46,16 @@ fn build_in<const FACES: usize, const MARKS: usize>(
     let mut planes = [NO_PLANE; FACES];
     let mut seen = [[0u16; 3]; FACES];
     let mut room = [NO_MARK; MARKS];
-    let mut marks = Marks::new(&mut room, list.count());
-    let m = raise(&mut table, &mut planes, &mut seen, &mut marks, list, s);
-    write_hull(faces, list, &table[..m], &planes)
+    let marks = Marks::new(&mut room, list.count());
+    let mut work = Work {
+        table: &mut table,
+        planes: &mut planes,
+        seen: &mut seen,
+        marks,
+        count: 0,
+    };
+    work.raise(list, s);
+    write_hull(faces, list, &work)
 }
 
 // Building from the start: for a few touches in small tables.
@@ -56,8 +63,9 @@ pub(crate) fn build_from(faces: &mut [u16], list: &TouchList<'_>, s: Start) -> R
     requires { Begun list.now (start_of s) }
     ensures { Builds list.now (hull_of list.now) faces.old result faces.new }
 {
-    if FEW < list.count() {
-        return build_in::<ALL_FACES, ALL_MARKS>(faces, list, s);
+    if list.count() <= FEW {
+        build_in::<FEW_FACES, FEW_MARKS>(faces, list, s)
+    } else {
+        build_in::<ALL_FACES, ALL_MARKS>(faces, list, s)
     }
-    build_in::<FEW_FACES, FEW_MARKS>(faces, list, s)
 }

@@ -89,9 +89,10 @@ fn corners(list: &TouchList<'_>, s: Start) -> [u16; 4]
     let q = touch(list, s.q);
     let r = touch(list, s.r);
     if 0 < volume(p, q, r, touch(list, s.s)) {
-        return [s.p.0, s.q.0, s.r.0, s.s.0];
+        [s.p.0, s.q.0, s.r.0, s.s.0]
+    } else {
+        [s.q.0, s.p.0, s.r.0, s.s.0]
     }
-    [s.q.0, s.p.0, s.r.0, s.s.0]
 }
 
 // The four starting faces: how many they are.

@@ -1,82 +1,101 @@
-// One building step, on a table of faces.
-ghost use Rattle.std.specs.Prelude.{◌≡◌, ◌+◌, ◌≤◌, length, take};
+// The tables that building works in, and one building step.
+ghost use Rattle.std.specs.Prelude.{◌≡◌, [], ℕ, ◌+◌, ◌<◌, ◌≤◌, pos, length, take, get_or, position};
+ghost use Rattle.std.specs.Int.Signed.{lt_z};
 ghost use Rattle.laws.specs.Lists.{Laid};
-ghost use Rattle.touches.specs.Touches.{touch};
+ghost use Rattle.touches.specs.Touches.{touch, touch_count};
 ghost use Rattle.rules.specs.Building.{step};
+ghost use Rattle.rules.specs.Demands.{FaceOf};
 ghost use Rattle.border.specs.Marks.{Fresh};
-ghost use Rattle.hull.specs.Whole.{Planed};
-ghost use Rattle.hull.specs.Inner.{Ready, PartOf, Tables};
+ghost use Rattle.hull.specs.Whole.{read_at, Planed};
+ghost use Rattle.hull.specs.Inner.{Ready, PartOf};
 
-use crate::whole::{first_in_front, in_front, put_planes};
+use crate::whole::in_front;
 use border::{Marks, add_cone};
 use points::touch::touch;
-use points::whole::WholePlane;
-use touches::{TouchList, TouchNo};
+use points::whole::{WholePlane, plane_on};
+use touches::{Place, TouchList, TouchNo};
 
-// How many faces of a table are kept, and how many are visible.
-#[derive(Clone, Copy)]
-struct Parted {
-    kept: usize,
-    seen: usize,
+// The face list, the first faces of a table, with their planes beside them; room for the faces that a touch sees; and the marks.
+#[derive(Drop)]
+pub(crate) struct Work<'a> {
+    pub(crate) table: &'a mut [[u16; 3]],
+    pub(crate) planes: &'a mut [WholePlane],
+    pub(crate) seen: &'a mut [[u16; 3]],
+    pub(crate) marks: Marks<'a>,
+    pub(crate) count: usize,
+    ghost planes_long: { length planes.now ≡ length table.now },
+    ghost seen_long: { length seen.now ≡ length table.now },
+    ghost holds: { count ≤ length table.now },
 }
 
-// The faces that are not visible from k go to the front of the table, with their planes, the visible ones to seen, each in their order.
-// Nothing moves before the first visible face.
-fn part(
-    table: &mut [[u16; 3]],
-    planes: &mut [WholePlane],
-    seen: &mut [[u16; 3]],
-    list: &TouchList<'_>,
-    n: usize,
-    k: TouchNo,
-) -> Parted
-    requires { Ready list.now (take n table.old) k.0 × Planed list.now n table.old planes.old
-        × (n ≤ length table.old) × (n ≤ length planes.old) × (n ≤ length seen.old) }
-    ensures faces { PartOf list.now (take n table.old) k.0 table.old
-        result.kept table.new result.seen seen.new }
-    ensures planes { Planed list.now result.kept table.new planes.new }
-{
-    let q = touch(list, k);
-    let Some(first) = first_in_front(&planes[..n], q) else {
-        return Parted { kept: n, seen: 0 };
-    };
-    seen[0] = table[first];
-    let mut m = first;
-    let mut s = 1;
-    for i in first + 1..n {
-        if in_front(planes[i], q) {
-            seen[s] = table[i];
-            s += 1;
-        } else {
-            table[m] = table[i];
-            planes[m] = planes[i];
-            m += 1;
+impl Work<'_> {
+    // The first face that q is in front of.
+    fn first_in_front(&self, q: Place) -> Option<usize>
+        ensures { result ≡ position (λ p. lt_z (read_at p q) (pos 0)) (take self.now.count self.now.planes.now) }
+    {
+        self.planes[..self.count]
+            .iter()
+            .position(|&p| in_front(p, q))
+    }
+
+    // The planes of the faces from number start on, beside those before them.
+    pub(crate) fn put_planes(&mut self, list: &TouchList<'_>, start: usize)
+        requires { Planed list.now start self.old.table.now self.old.planes.now × (start ≤ self.old.count)
+            × ((j : ℕ) → start ≤ j → j < self.old.count → FaceOf list.now (get_or self.old.table.now j [])) }
+        ensures planes { Planed list.now self.old.count self.new.table.now self.new.planes.now }
+        ensures same { (self.new.table.now ≡ self.old.table.now) × (self.new.count ≡ self.old.count) × (self.new.marks ≡ self.old.marks) }
+    {
+        for i in start..self.count {
+            self.planes[i] = plane_on(list, touches::corners(self.table[i]));
         }
     }
-    Parted { kept: m, seen: s }
-}
 
-// Touch k is taken. The face list was the first n faces of the table, with their planes, and is now the first r, r being the answer.
-// The table seen is room to work in.
-pub(crate) fn step(
-    table: &mut [[u16; 3]],
-    planes: &mut [WholePlane],
-    seen: &mut [[u16; 3]],
-    marks: &mut Marks,
-    list: &TouchList<'_>,
-    n: usize,
-    k: TouchNo,
-) -> usize
-    requires { Ready list.now (take n table.old) k.0 × Planed list.now n table.old planes.old
-        × Tables list.now table.old planes.old seen.old marks.old × Fresh k.0 marks.old.table.now × (n ≤ length table.old)
-        × (length (step (touch list.now) (take n table.old) k.0) ≤ length table.old) }
-    ensures faces { Laid 0 (step (touch list.now) (take n table.old) k.0) table.old result table.new }
-    ensures planes { Planed list.now result table.new planes.new }
-    ensures marks { Fresh (k.0 + 1) marks.new.table.now }
-    ensures width { marks.new.width ≡ marks.old.width }
-{
-    let p = part(table, planes, seen, list, n, k);
-    let r = add_cone(table, p.kept, &seen[..p.seen], marks, k);
-    put_planes(planes, table, list, p.kept, r);
-    r
+    // The faces that are not visible from k stay, with their planes, and the visible ones go to seen, each in their order: how many
+    // are visible. Nothing moves before the first of them.
+    fn part(&mut self, list: &TouchList<'_>, k: TouchNo) -> usize
+        requires { Ready list.now (take self.old.count self.old.table.now) k.0 × Planed list.now self.old.count self.old.table.now self.old.planes.now }
+        ensures faces { PartOf list.now (take self.old.count self.old.table.now) k.0 self.old.table.now
+            self.new.count self.new.table.now result self.new.seen.now }
+        ensures planes { Planed list.now self.new.count self.new.table.now self.new.planes.now }
+        ensures same_room { length self.new.table.now ≡ length self.old.table.now }
+        ensures same_marks { self.new.marks ≡ self.old.marks }
+    {
+        let q = touch(list, k);
+        let n = self.count;
+        let Some(first) = self.first_in_front(q) else {
+            return 0;
+        };
+        self.seen[0] = self.table[first];
+        let mut m = first;
+        let mut s = 1;
+        for i in first + 1..n {
+            if in_front(self.planes[i], q) {
+                self.seen[s] = self.table[i];
+                s += 1;
+            } else {
+                self.table[m] = self.table[i];
+                self.planes[m] = self.planes[i];
+                m += 1;
+            }
+        }
+        self.count = m;
+        s
+    }
+
+    // Touch k is taken.
+    pub(crate) fn step(&mut self, list: &TouchList<'_>, k: TouchNo)
+        requires { Ready list.now (take self.old.count self.old.table.now) k.0 × Planed list.now self.old.count self.old.table.now self.old.planes.now
+            × (self.old.marks.width ≡ touch_count list.now) × Fresh k.0 self.old.marks.table.now
+            × (length (step (touch list.now) (take self.old.count self.old.table.now) k.0) ≤ length self.old.table.now) }
+        ensures faces { Laid 0 (step (touch list.now) (take self.old.count self.old.table.now) k.0) self.old.table.now self.new.count self.new.table.now }
+        ensures planes { Planed list.now self.new.count self.new.table.now self.new.planes.now }
+        ensures marks { Fresh (k.0 + 1) self.new.marks.table.now }
+        ensures same_room { length self.new.table.now ≡ length self.old.table.now }
+        ensures same_width { self.new.marks.width ≡ self.old.marks.width }
+    {
+        let visible = self.part(list, k);
+        let kept = self.count;
+        self.count = add_cone(self.table, kept, &self.seen[..visible], &mut self.marks, k);
+        self.put_planes(list, kept);
+    }
 }
