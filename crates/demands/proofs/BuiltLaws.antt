@@ -9,11 +9,12 @@ use native.Mathlib.Omega.{arith}
 use lib.IntN.{ℤ, pos}
 use lib.Signed.{◌<ℤ◌}
 use lib.ListN.{length, drop}
+use Rattle.std.specs.Prelude.{Err}
 use Rattle.laws.proofs.Tables.{length_lay, lay_rest}
 use Rattle.touches.specs.declared.Point.{Point}
+use Rattle.touches.specs.declared.refusal.Refusal.TheVariants.{AllTouchesOnOnePlane, FaceTableTooSmall}
 use Rattle.touches.specs.Limits.{most_touches, place_in_range}
 use Rattle.touches.specs.Touches.{touch, touch_count, Sound}
-use Rattle.touches.specs.Refusals.{all_touches_on_one_plane, face_table_too_small, because}
 use Rattle.touches.proofs.SoundLaws.{sound_accepted}
 use Rattle.rules.specs.Faces.{Face}
 use Rattle.rules.specs.Building.{volume}
@@ -26,7 +27,6 @@ use Rattle.table.specs.Table.{stride, room, lent, first_faces, faces_in}
 use Rattle.table.proofs.LentLaws.{length_lent}
 use Rattle.hull.specs.Build.{built, built_count}
 use Rattle.hull.specs.Place.{placed_by, placed}
-use Rattle.hull.specs.declared.build.Built.TheVariants.{Refused}
 use Rattle.hull.proofs.Inversion.{Inverted}
 use Rattle.hull.proofs.CallLaws.{hull_back, call_places}
 use Rattle.demands.specs.Demands.{AllFlat, NoRoom, build_order, after_build, front, triangles, place, IsHull}
@@ -82,10 +82,10 @@ module _ {cs : List ℤ} {old : List ℕ} {n : ℕ} {v : ℤ} {h : List Face} (i
 
 -- ---- refused as flat
 module _ (cs : List ℤ) (old : List ℕ) where
-  pub flat_to : built cs old ≡ Refused (because all_touches_on_one_plane) → Sound cs × AllFlat cs
-  flat_to e = go ((build_first cs old (because all_touches_on_one_plane)).0 e)
+  pub flat_to : built cs old ≡ Err AllTouchesOnOnePlane → Sound cs × AllFlat cs
+  flat_to e = go ((build_first cs old AllTouchesOnOnePlane).0 e)
     where
-      go : build_order cs old (because all_touches_on_one_plane) → Sound cs × AllFlat cs
+      go : build_order cs old AllTouchesOnOnePlane → Sound cs × AllFlat cs
       go (inl u) = absurd (omega (arith, u.0))
       go (inr (a, inl u)) = absurd (omega (arith, u.0))
       go (inr (a, inr (b, inl u))) = absurd (omega (arith, u.0))
@@ -93,18 +93,18 @@ module _ (cs : List ℤ) (old : List ℕ) where
       go (inr (a, inr (b, inr (c, inr (d, inl u))))) = absurd (omega (arith, u.0))
       go (inr (a, inr (b, inr (c, inr (d, inr u))))) = absurd u.1
 
-  flat_from : Sound cs × AllFlat cs → built cs old ≡ Refused (because all_touches_on_one_plane)
+  flat_from : Sound cs × AllFlat cs → built cs old ≡ Err AllTouchesOnOnePlane
   flat_from u = rw (sound_accepted cs u.0, (flat_exact (touch cs) (touch_count cs)).1 u.1)
 
-  pub flat_is : (built cs old ≡ Refused (because all_touches_on_one_plane)) ↔ (Sound cs × AllFlat cs)
+  pub flat_is : (built cs old ≡ Err AllTouchesOnOnePlane) ↔ (Sound cs × AllFlat cs)
   flat_is = (flat_to, flat_from)
 
 -- ---- refused for want of room
 module _ (cs : List ℤ) (old : List ℕ) where
-  no_room : built cs old ≡ Refused (because face_table_too_small) → Sound cs × NoRoom cs old
-  no_room e = go ((build_first cs old (because face_table_too_small)).0 e)
+  no_room : built cs old ≡ Err FaceTableTooSmall → Sound cs × NoRoom cs old
+  no_room e = go ((build_first cs old FaceTableTooSmall).0 e)
     where
-      go : build_order cs old (because face_table_too_small) → Sound cs × NoRoom cs old
+      go : build_order cs old FaceTableTooSmall → Sound cs × NoRoom cs old
       go (inl u) = absurd (omega (arith, u.0))
       go (inr (a, inl u)) = absurd (omega (arith, u.0))
       go (inr (a, inr (b, inl u))) = absurd (omega (arith, u.0))
@@ -112,8 +112,8 @@ module _ (cs : List ℤ) (old : List ℕ) where
       go (inr (a, inr (b, inr (c, inr (d, inl u))))) = (none_applies cs a b c, u.1.1)
       go (inr (a, inr (b, inr (c, inr (d, inr u))))) = absurd u.1
 
-  pub room_enough : enough (touch_count cs) ≤ room old → built cs old ≡ Refused (because face_table_too_small) → ⊥
+  pub room_enough : enough (touch_count cs) ≤ room old → built cs old ≡ Err FaceTableTooSmall → ⊥
   room_enough l e = let u = (no_room e).1 in omega (arith, u.2, hull_few (touch cs) (touch_count cs) u.1)
 
-  pub room_always : enough most_touches ≤ room old → built cs old ≡ Refused (because face_table_too_small) → ⊥
+  pub room_always : enough most_touches ≤ room old → built cs old ≡ Err FaceTableTooSmall → ⊥
   room_always l e = room_enough (omega (arith, accepted_few (no_room e).0)) e

@@ -8,14 +8,14 @@ use native.Mathlib.Omega.{arith}
 use lib.IntN.{ℤ}
 use lib.Signed.{◌≤ℤ◌, ◌<ℤ◌}
 use lib.ListN.{length, length-append}
+use Rattle.std.specs.Prelude.{Result, Ok, Err}
 use Rattle.laws.proofs.Firsts.{no_some}
 use Rattle.touches.specs.declared.FaceNo.{FaceNo}
 use Rattle.touches.specs.declared.Point.{Point}
-use Rattle.touches.specs.declared.Checked.{Checked}
-use Rattle.touches.specs.declared.Checked.TheVariants.{Accepted as CheckAccepted, Refused as CheckRefused}
+use Rattle.touches.specs.declared.refusal.Refusal.{Refusal}
+use Rattle.touches.specs.declared.refusal.Refusal.TheVariants.{AllTouchesOnOnePlane, NoSuchFace, PlaceOutOfRange}
 use Rattle.touches.specs.Limits.{place_in_range}
 use Rattle.touches.specs.Touches.{touch, touch_count, face_no, Sound}
-use Rattle.touches.specs.Refusals.{all_touches_on_one_plane, no_such_face, place_out_of_range, because}
 use Rattle.touches.specs.Check.{pick, checked, if_accepted}
 use Rattle.touches.proofs.SoundLaws.{near_place, touch_near}
 use Rattle.touches.proofs.JoinLaws.{join_count, join_second}
@@ -25,32 +25,25 @@ use Rattle.rules.specs.Placing.{outside, lies}
 use Rattle.rules.specs.Demands.{OnOrInside, Growth}
 use Rattle.rules.proofs.Theorems.{flat_exact, one_result, inside_stays, lists_grow, lists_rise, lists_same}
 use Rattle.table.specs.Table.{lent, faces_in, usable}
-use Rattle.hull.specs.Build.{built}
+use Rattle.hull.specs.Build.{hull_with, built}
 use Rattle.hull.specs.Place.{placed_by, placed}
-use Rattle.hull.specs.declared.build.Built.TheVariants.{Hull, Refused}
 use Rattle.hull.specs.declared.place.Placed.{Placed}
-use Rattle.hull.specs.declared.place.Placed.TheVariants.{Outside, On, Inside, Refused as PlaceRefused}
+use Rattle.hull.specs.declared.place.Placed.TheVariants.{On, Inside}
 use Rattle.hull.proofs.Inversion.{Inverted, inverted}
 use Rattle.hull.proofs.CallLaws.{by_inside, by_outside}
 use Rattle.demands.specs.Demands.{front, place, SomeOutside, Grows}
 use Rattle.demands.proofs.PlacedLaws.{hull_within}
 use Rattle.demands.proofs.BuiltLaws.{front_is, place_is, flat_to}
 
--- ---- a place that was not refused is in range
-abbrev Answered : Placed → Type 0
-Answered (PlaceRefused r) = ⊥
-Answered (Outside f d) = Unit {0}
-Answered (On f) = Unit {0}
-Answered Inside = Unit {0}
-
-in_range : (cs : List ℤ) (t : List ℕ) (q : Point) {x : Placed} → placed cs t q ≡ x → Answered x → place_in_range q ≡ true
-in_range cs t q e a = go (checked cs) (usable (touch_count cs) t) (place_in_range q) (subst Answered (sym e) a)
+-- a place that was not refused is in range
+in_range : (cs : List ℤ) (t : List ℕ) (q : Point) {p : Placed} → placed cs t q ≡ Ok p → place_in_range q ≡ true
+in_range cs t q {p} e = go (checked cs) (usable (touch_count cs) t) (place_in_range q) e
   where
-    go : (k : Checked) (u b : Bool) → Answered (if_accepted k PlaceRefused (pick u (pick b (placed_by (lies (touch cs) (faces_in t) q)) (PlaceRefused (because place_out_of_range))) (PlaceRefused (because no_such_face)))) → b ≡ true
-    go (CheckRefused r) u b h = absurd h
-    go (CheckAccepted c) false b h = absurd h
-    go (CheckAccepted c) true false h = absurd h
-    go (CheckAccepted c) true true h = refl
+    go : (k : Result (List ℤ) Refusal) (u b : Bool) → if_accepted k (pick u (pick b (placed_by (lies (touch cs) (faces_in t) q)) (Err PlaceOutOfRange)) (Err NoSuchFace)) ≡ Ok p → b ≡ true
+    go (Err r) u b e = cc
+    go (Ok l) false b e = cc
+    go (Ok l) true false e = cc
+    go (Ok l) true true e = refl
 
 -- added touches come in whole threes
 added_whole : (L M : List ℤ) → Sound L → Sound (L ++ M) → length M % 3 ≡ 0
@@ -76,12 +69,12 @@ module _ (L M : List ℤ) {old new : List ℕ} {n m : ℕ} {v w : ℤ} {h g : Li
   second : (q : Point) → place_in_range q ≡ true → place (L ++ M) new q ≡ placed_by (lies (touch (L ++ M)) grown q)
   second q r = place_is j q r ∙ ap (λ (f : List Face). placed_by (lies (touch (L ++ M)) f q)) is_grown
 
-  inside_is : (q : Point) → place L old q ≡ Inside → place (L ++ M) new q ≡ Inside
-  inside_is q a = let r = in_range L (front L old) q a tt in
+  inside_is : (q : Point) → place L old q ≡ Ok Inside → place (L ++ M) new q ≡ Ok Inside
+  inside_is q a = let r = in_range L (front L old) q a in
       second q r ∙ ap placed_by (inside_stays growth q (by_inside (lies (touch L) h q) (sym (place_is i q r) ∙ a)))
 
-  on_is : (q : Point) (k : FaceNo) → place L old q ≡ On k → (place (L ++ M) new q ≡ Inside) ⊎ ((f : FaceNo) × (place (L ++ M) new q ≡ On f))
-  on_is q k a = let r = in_range L (front L old) q a tt in
+  on_is : (q : Point) (k : FaceNo) → place L old q ≡ Ok (On k) → (place (L ++ M) new q ≡ Ok Inside) ⊎ ((f : FaceNo) × (place (L ++ M) new q ≡ Ok (On f)))
+  on_is q k a = let r = in_range L (front L old) q a in
       (hull_within j q r).1 (subst (λ (f : List Face). OnOrInside (touch (L ++ M)) f q) (sym is_grown) (growth.on q ((hull_within i q r).0 (inr (k, a)))))
 
   sum_grown : w ≡ volume (touch (L ++ M)) grown
@@ -120,7 +113,7 @@ module _ (L M : List ℤ) {old new : List ℕ} {n m : ℕ} {v w : ℤ} {h g : Li
   grows = record { inside = inside_is; on = on_is; keeps = keeps_is; rises = rises_is; same = same_is }
 
 -- a list that begins with an accepted one is not refused as flat
-pub never_flat : (L M : List ℤ) (old new : List ℕ) (n : ℕ) (v : ℤ) → built L old ≡ Hull n v → built (L ++ M) new ≡ Refused (because all_touches_on_one_plane) → ⊥
+pub never_flat : (L M : List ℤ) (old new : List ℕ) (n : ℕ) (v : ℤ) → built L old ≡ Ok (hull_with n v) → built (L ++ M) new ≡ Err AllTouchesOnOnePlane → ⊥
 never_flat L M old new n v e f =
     let i = (inverted L old e).1 in
     let u = flat_to (L ++ M) new f in

@@ -1,3 +1,4 @@
+pub mod RefusalLaws
 pub mod FirstLaws
 pub mod ReasonLaws
 pub mod ListLaws

@@ -1,16 +1,15 @@
 -- The demands hold.
 use mathlib.Core.Path.{ap}
 use mathlib.Core.List.{◌++◌}
+use Rattle.std.specs.Prelude.{ℕ, Result}
 use Rattle.laws.proofs.Exact.{plus_zero_is}
-use Rattle.touches.specs.Check.{checked_refusal, checked_count}
+use Rattle.touches.specs.declared.refusal.Refusal.{Refusal}
 use Rattle.touches.proofs.SoundLaws.{sound_accepted, near_place}
 use Rattle.hull.specs.Build.{hull_of, table_after}
-use Rattle.hull.specs.declared.build.Built.{Built}
+use Rattle.hull.specs.declared.build.Hull.{Hull}
 use Rattle.hull.proofs.Inversion.{inverted}
 use Rattle.records.specs.Record.{plain_version, record_of, touches_in}
 use Rattle.records.specs.Answers.{list_after, buffer_after}
-use Rattle.records.specs.declared.ReadAnswer.{ReadAnswer}
-use Rattle.records.specs.declared.WriteAnswer.{WriteAnswer}
 use Rattle.demands.specs.Demands.{Demands}
 use Rattle.demands.proofs.ListLaws.{check_first}
 use Rattle.demands.proofs.CallFirsts.{build_first, place_first, plane_first, reading_first, plumb_first}
@@ -25,7 +24,7 @@ use Rattle.demands.proofs.PlumbLineLaws.{plumb_line}
 
 pub demands : Demands
 demands = record {
-  check_passed = λ cs d. (ap checked_refusal (sound_accepted cs d), ap checked_count (sound_accepted cs d));
+  check_passed = sound_accepted;
   check_refused = check_first;
   build_refused = build_first;
   place_refused = place_first;
@@ -35,10 +34,10 @@ demands = record {
   read_refused = read_first;
   write_refused = write_first;
   copy_refused = copy_first;
-  build_untouched = λ cs old r e. ap (λ (a : Built). table_after a (hull_of cs) old) e;
-  read_untouched = λ b old r e. ap (λ (a : ReadAnswer). list_after a (touches_in b) old) e;
-  write_untouched = λ cs old r e. ap (λ (a : WriteAnswer). buffer_after a (record_of plain_version cs) old) e;
-  copy_untouched = λ b old r e. ap (λ (a : WriteAnswer). buffer_after a b old) e;
+  build_untouched = λ cs old r e. ap (λ (a : Result Hull Refusal). table_after a (hull_of cs) old) e;
+  read_untouched = λ b old r e. ap (λ (a : Result ℕ Refusal). list_after a (touches_in b) old) e;
+  write_untouched = λ cs old r e. ap (λ (a : Result ℕ Refusal). buffer_after a (record_of plain_version cs) old) e;
+  copy_untouched = λ b old r e. ap (λ (a : Result ℕ Refusal). buffer_after a b old) e;
   hull = λ cs old n v e. is_hull (inverted cs old e).1;
   room_enough = room_enough;
   room_always = room_always;
