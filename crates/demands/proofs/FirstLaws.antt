@@ -10,7 +10,7 @@ use Rattle.touches.specs.declared.refusal.Refusal.{Refusal}
 use Rattle.touches.specs.Refusals.{number, place as touch_of}
 use Rattle.touches.specs.Check.{pick}
 use Rattle.demands.specs.Demands.{first, never, at0}
-use Rattle.demands.proofs.RefusalLaws.{same_refusal}
+use Rattle.touches.proofs.RefusalLaws.{same_refusal}
 
 -- the test b says whether E holds
 pub record Tests (E : Type 0) (b : Bool) : Type 0 where

@@ -1,4 +1,3 @@
-pub mod RefusalLaws
 pub mod FirstLaws
 pub mod ReasonLaws
 pub mod ListLaws

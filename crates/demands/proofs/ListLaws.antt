@@ -17,7 +17,7 @@ use Rattle.touches.specs.Check.{checked, if_accepted}
 use Rattle.touches.proofs.SoundLaws.{accepted_sound, sound_accepted, touch_near}
 use Rattle.touches.proofs.CheckLaws.{one_stray, check_ragged, check_many, check_stray}
 use Rattle.demands.specs.Demands.{first, never, at0, TooMany, list_order}
-use Rattle.demands.proofs.RefusalLaws.{same_refusal}
+use Rattle.touches.proofs.RefusalLaws.{same_refusal}
 use Rattle.demands.proofs.FirstLaws.{one_refusal, given_never, unless_so, where_less}
 
 module _ {A : Type 0} where

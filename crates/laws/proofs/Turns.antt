@@ -31,9 +31,6 @@ module _ (k n : ℕ) where
     pub first_here : k < n → q k ≡ true → first q (upward k (n - k)) ≡ some k
     first_here h e = turn h e
 
-    pub first_past : k < n → q k ≡ false → first q (upward k (n - k)) ≡ first q later
-    first_past h e = turn h e
-
     pub first_end : n ≤ k → first q (upward k (n - k)) ≡ none
     first_end h = rw (upward_none h)
 

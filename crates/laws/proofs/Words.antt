@@ -4,14 +4,14 @@ use mathlib.Core.Path.{◌≡◌, refl, sym, ap, ap₂, subst, ◌∙◌}
 use Prim.Native.Nat.{ℕ, ◌+◌, ◌*◌, ◌^◌}
 use native.Mathlib.Nat.{lt_of_lt_of_le}
 use lib.Dec.{T, ltb, ltb→lt, lit≤, eqb, eqb→eq, eqb_refl}
-use lib.IntN.{ℤ, pos, neg_ℤ, ◌+ℤ◌, ◌-ℤ◌, ◌*ℤ◌, +ℤ_idl}
+use lib.IntN.{ℤ, ◌+ℤ◌, ◌-ℤ◌, ◌*ℤ◌}
 use mir.Syntax.{Width, w32, w64}
 use mir.Val.{SFits, to_z, of_z, hbits}
 use mir.ValLaws.{to_z-of_z}
 use Rattle.laws.specs.Numbers.{Within, eq_z}
 use Rattle.laws.proofs.Tests.{same_test}
 use Rattle.laws.proofs.Order.{eq_z→eq, eq_z_refl}
-use Rattle.laws.proofs.WithinLaws.{within_add, within_sub, within_mul, within_neg, within_fits}
+use Rattle.laws.proofs.WithinLaws.{within_add, within_sub, within_mul, within_fits}
 
 pub record Reads (B : ℕ) (y z : ℤ) : Type 0 where
   pub is : y ≡ z
@@ -33,10 +33,6 @@ module _ {A B : ℕ} {x y a b : ℤ} (h : Reads A x a) (k : Reads B y b) where
 
   pub r_mul : Reads (A * B) (x *ℤ y) (a *ℤ b)
   r_mul = record { is = ap₂ ◌*ℤ◌ h.is k.is; bound = within_mul h.bound k.bound }
-
--- the machine has -x as 0 - x
-pub r_neg : {A : ℕ} {x a : ℤ} → Reads A x a → Reads A (pos 0 -ℤ x) (neg_ℤ a)
-r_neg {A} {x} {a} h = record { is = +ℤ_idl (neg_ℤ x) ∙ ap neg_ℤ h.is; bound = within_neg h.bound }
 
 -- what an operation at width w asks, and its result once stored and read back
 module _ (w : Width) {A : ℕ} {x a : ℤ} (h : Reads A x a) (t : T (ltb A (2 ^ hbits w))) where

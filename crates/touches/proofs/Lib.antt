@@ -4,3 +4,4 @@ pub mod SoundLaws
 pub mod JoinLaws
 pub mod PlainLaws
 pub mod CheckLaws
+pub mod RefusalLaws
