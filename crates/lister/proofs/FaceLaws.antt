@@ -1,13 +1,12 @@
 -- The lines of a lent table's faces, a face a turn, and of the face list that building laid into it.
 use mathlib.Core.Path.{◌≡◌, refl, sym, ap, ◌∙◌}
 use mathlib.Core.List.{List, [], ◌∷◌, ◌++◌, append_assoc, append-nil, map}
-use Prim.Native.Nat.{ℕ, ◌+◌, ◌<◌, ◌≤◌}
+use Prim.Native.Nat.{ℕ, ◌+◌, ◌<◌}
 use native.Mathlib.Numerals.{add-one}
 use native.Mathlib.Omega.{arith}
 use lib.ListN.{length, take, get_or}
 use lib.Seq.{take-suc}
-use Rattle.laws.specs.Lists.{lay, Laid}
-use Rattle.laws.proofs.Tables.{laid_then}
+use Rattle.laws.specs.Lists.{lay}
 use Rattle.rules.specs.Faces.{Face}
 use Rattle.table.specs.Table.{room, numbers, lent, face_at, faces_in}
 use Rattle.table.proofs.TableLaws.{length_faces, face_at_lem}
@@ -28,14 +27,14 @@ unfolding face_lines
 lines_one f = simp append-nil
 
 -- the next face's line
-pub laid_next : {start at r : ℕ} {old mid after : List ℕ} (t : List ℕ) (i : ℕ) {f : Face} → i < room t → f ≡ face_at t i → start ≤ length old
-    → Laid start (face_lines (take i (faces_in t))) old at mid → Laid at (face_line f) mid r after → Laid start (face_lines (take (i + 1) (faces_in t))) old r after
-laid_next t i {f} h e b p q =
+pub lines_next : (old : List ℕ) {mid after : List ℕ} (t : List ℕ) (i : ℕ) {f : Face} → i < room t → f ≡ face_at t i
+    → mid ≡ old ++ face_lines (take i (faces_in t)) → after ≡ mid ++ face_line f → after ≡ old ++ face_lines (take (i + 1) (faces_in t))
+lines_next old t i {f} h e p q =
     let n : i < length (faces_in t) = omega (arith, length_faces t) in
     let g = take i (faces_in t) in
     let line : face_lines (get_or (faces_in t) i [] ∷ []) ≡ face_line f = lines_one (get_or (faces_in t) i []) ∙ ap face_line (face_at_lem t i h ∙ sym e) in
     let more : face_lines (take (i + 1) (faces_in t)) ≡ face_lines g ++ face_line f = rw (add-one, take-suc (faces_in t) i [] n, lines_append g (get_or (faces_in t) i [] ∷ []), line) in
-    rw more (laid_then p b q)
+    q ∙ rw (p, more) (append_assoc old (face_lines g) (face_line f))
 
 -- ---- the faces of a table that building wrote
 -- a line shows corners only

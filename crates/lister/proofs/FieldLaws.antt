@@ -1,10 +1,12 @@
--- A field and the byte after it, where there is room for both.
+-- Text put after what a room holds so far.
+use mathlib.Core.Path.{◌≡◌, sym, ap, ◌∙◌}
 use mathlib.Core.List.{List, [], ◌∷◌, ◌++◌}
 use Prim.Native.Nat.{ℕ, ◌+◌, ◌^◌, ◌<◌, ◌≤◌}
 use native.Mathlib.Omega.{arith}
-use lib.ListN.{length, set}
+use lib.ListN.{length, take, length-append}
+use lib.Seq.{length-take-le}
 use Rattle.laws.specs.Lists.{Laid}
-use Rattle.laws.proofs.Tables.{length_laid, laid_one, laid_then}
+use Rattle.laws.proofs.Tables.{length_laid, laid_take}
 use Rattle.text.specs.Decimal.{decimal}
 use Rattle.text.specs.Room.{Put}
 use Rattle.text.proofs.DecimalLaws.{length_decimal}
@@ -14,18 +16,31 @@ use Rattle.text.proofs.RoomLaws.{put_laid}
 pub number_few : {n : ℕ} → n < 2 ^ 16 → length (decimal n) ≤ 5
 number_few {n} h = length_decimal n (omega arith) 4 (omega arith)
 
-module _ {at r : ℕ} {new old mid : List ℕ} (k : ℕ) (few : length new ≤ k) (room : at + (k + 1) ≤ length old) (p : Put at new old r mid) where
-  fits : at + length new ≤ length old
-  fits = omega arith
+-- the text so far is s, the first `at` bytes of the room
+module _ {at r : ℕ} {s new old mid : List ℕ} (inside : at ≤ length old) (held : take at old ≡ s) (p : Put at new old r mid) (fits : length s + length new ≤ length old) where
+  size : length s ≡ at
+  size = ap length (sym held) ∙ length-take-le at old inside
 
   laid : Laid at new old r mid
-  laid = put_laid fits p
+  laid = put_laid (omega (arith, size)) p
 
-  pub field_short : r ≤ at + k
-  field_short = omega (arith, laid.next)
+  pub word_inside : r ≤ length mid
+  word_inside = omega (arith, size, laid.next, length_laid laid (omega (arith, size)))
 
-  pub field_inside : r < length mid
-  field_inside = omega (arith, laid.next, length_laid laid fits)
+  pub word_put : take r mid ≡ s ++ new
+  word_put = laid_take laid inside ∙ ap (λ (l : List ℕ). l ++ new) held
 
-  pub field_laid : (x : ℕ) → Laid at (new ++ (x ∷ [])) old (r + 1) (set mid r x)
-  field_laid x = laid_then laid (omega arith) (laid_one r x mid field_inside)
+-- a field of at most k bytes, and the byte x after it
+module _ {at r : ℕ} {s new old mid : List ℕ} (inside : at ≤ length old) (held : take at old ≡ s) (p : Put at new old r mid) (k : ℕ) (few : length new ≤ k) (room : length s + (k + 1) ≤ length old) where
+  put : take r mid ≡ s ++ new
+  put = word_put inside held p (omega arith)
+
+  pub field_room : length (take r mid) + 1 ≤ length s + (k + 1)
+  field_room = omega (arith, ap length put, length-append s new)
+
+  module _ (x : ℕ) {after : List ℕ} (e : after ≡ take r mid ++ x ∷ []) where
+    pub field_put : after ≡ s ++ new ++ x ∷ []
+    field_put = rw put at e
+
+    pub field_short : length after ≤ length s + (k + 1)
+    field_short = omega (arith, field_room, simp length-append at (ap length e))
