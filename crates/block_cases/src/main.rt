@@ -101,7 +101,7 @@ fn worst_faces(rt: &impl Print) -> io::Result<()> {
     place(rt, &T, &FACES, -2, -2, -1)?;
     place(rt, &T, &FACES, 20, 0, 0)?;
     let mut faces = [0u16; 12];
-    hull::build::build(&WIDE, &mut faces);
+    let _ = hull::build::build(&WIDE, &mut faces);
     place(rt, &WIDE, &faces, 30000, 30000, -30000)
 }
 

@@ -6,7 +6,7 @@ use native.Mathlib.Omega.{arith}
 use lib.ListN.{length, take, length-append}
 use lib.Seq.{length-take-le}
 use Rattle.laws.specs.Lists.{Laid}
-use Rattle.laws.proofs.Tables.{length_laid, laid_take}
+use Rattle.laws.proofs.Tables.{laid_take}
 use Rattle.text.specs.Decimal.{decimal}
 use Rattle.text.specs.Room.{Put}
 use Rattle.text.proofs.DecimalLaws.{length_decimal}
@@ -23,9 +23,6 @@ module _ {at r : ℕ} {s new old mid : List ℕ} (inside : at ≤ length old) (h
 
   laid : Laid at new old r mid
   laid = put_laid (omega (arith, size)) p
-
-  pub word_inside : r ≤ length mid
-  word_inside = omega (arith, size, laid.next, length_laid laid (omega (arith, size)))
 
   pub word_put : take r mid ≡ s ++ new
   word_put = laid_take laid inside ∙ ap (λ (l : List ℕ). l ++ new) held

@@ -36,20 +36,22 @@ const THIN: [i32; 12] = [
 ];
 
 // A double that holds a whole number; minus zero shows its sign.
+#[derive(Clone, Copy)]
 struct Whole(f64);
 
 impl fmt::Display for Whole {
     fn fmt<W: fmt::Write>(&self, f: &mut fmt::Formatter<W>) -> fmt::Result {
         let x = self.0;
-        let size = x.abs();
-        if x.is_sign_negative() {
+        if x < 0.0 || 1.0 / x < 0.0 {
             f.write_str("-")?;
         }
-        if size < 18446744073709551616.0 {
-            write!(f, "{}", std::num::truncating_f64_to_u64(size))
-        } else {
-            f.write_str("no whole number")
+        let size = x.abs();
+        if -1.0 < size {
+            if size < 18446744073709551616.0 {
+                return write!(f, "{}", std::num::truncating_f64_to_u64(size));
+            }
         }
+        f.write_str("no whole number")
     }
 }
 
@@ -60,7 +62,13 @@ fn height(z: f64) -> Whole {
 
 fn plane(rt: &impl Print, coords: &[i32], a: u16, b: u16, c: u16) -> io::Result<()> {
     match planes::plane_of(coords, TouchNo(a), TouchNo(b), TouchNo(c)) {
-        Ok(p) => println!(rt; "plane {} {} {} {}", Whole(p.x), Whole(p.y), Whole(p.z), Whole(p.offset)),
+        Ok(p) => println!(rt;
+            "plane {} {} {} {}",
+            Whole(p.x),
+            Whole(p.y),
+            Whole(p.z),
+            Whole(p.offset)
+        ),
         Err(r) => println!(rt; "{r}"),
     }
 }

@@ -4,7 +4,7 @@ use mathlib.Core.List.{List, append_assoc}
 use Prim.Native.Nat.{ℕ, ◌+◌, ◌-◌, ◌<◌, ◌≤◌}
 use native.Mathlib.Omega.{arith}
 use borrow.Author.Tests.{le-leb, lt-leb}
-use lib.ListN.{length, length-append}
+use lib.ListN.{length}
 use lib.Seq.{drop-drop}
 use borrow.Rule.Slice.PartMut.{put_mid}
 use Rattle.laws.specs.Lists.{lay, Laid}
@@ -24,8 +24,3 @@ unfolding lay
 put_written {at} {new} {old} h e =
     let n : at + length new - at ≡ length new = omega arith in
     rw (n, e, drop-drop, ← append_assoc) (record { laid = rw (le-leb (at + length new) (length old) h) (record { next = refl; table = refl }) })
-
--- the next place is in the table
-pub laid_inside : {A : Type 0} {r : ℕ} {new old after : List A} → Laid 0 new old r after → r ≤ length after
-unfolding lay
-laid_inside {A} {r} {new} {old} h = rw h.table (simp length-append (omega (arith, h.next)))
