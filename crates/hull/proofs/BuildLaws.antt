@@ -2,7 +2,7 @@
 use Rattle.std.specs.Prelude.{Result, Ok, Err, None}
 use mathlib.Core.Path.{◌≡◌, refl, sym, ap, ◌∙◌}
 use mathlib.Core.Bool.{Bool}
-use mathlib.Core.List.{List, []}
+use mathlib.Core.List.{List}
 use mathlib.Core.Option.{none, some}
 use Prim.Native.Nat.{ℕ, ◌<◌, ◌≤◌}
 use native.Mathlib.Nat.{le_trans}
@@ -11,7 +11,6 @@ use borrow.Author.Tests.{le-leb, lt-leb}
 use lib.Dec.{leb}
 use lib.IntN.{ℤ}
 use lib.ListN.{length, take}
-use lib.Seq.{get_or-take}
 use Rattle.touches.specs.declared.refusal.Refusal.TheVariants.{AllTouchesOnOnePlane, FaceTableTooSmall}
 use Rattle.touches.specs.declared.refusal.Refusal.{Refusal}
 use Rattle.touches.specs.Limits.{most_faces}
@@ -25,7 +24,7 @@ use Rattle.rules.proofs.AfterLaws.{hull_built, hull_some}
 use Rattle.rules.proofs.Theorems.{start_order, accepted_few}
 use Rattle.cover.specs.Room.{enough}
 use Rattle.cover.proofs.Theorems.{hull_few}
-use Rattle.points.specs.Whole.{Plane, plane_on}
+use Rattle.points.specs.Whole.{Plane}
 use Rattle.hull.specs.Build.{hull_of, hull_with, built_from, built}
 use Rattle.hull.specs.Whole.{Planed}
 use Rattle.hull.specs.Inner.{Begun, Taken, Builds}

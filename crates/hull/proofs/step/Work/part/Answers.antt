@@ -1,4 +1,4 @@
-use Rattle.std.proofs.Common.{◌≡◌, refl, sym, ◌∙◌, ◌<◌, length, get_or, length-set, arith, rules}
+use Rattle.std.proofs.Common.{refl, sym, ◌∙◌, ◌<◌, length, length-set, arith, rules}
 use Rattle.std.proofs.lemmas.List.{get_or_default}
 use Rattle.hull.specs.Whole.{no_plane}
 use Rattle.hull.proofs.PartLaws.{parting_seen, parting_kept, parting_all, parting_first, parting_nothing}

@@ -44,7 +44,7 @@ loop-k-preserved c =
     let l = c.loop-k.invariant in
     elim c.if-not-has.branch [
       | then-not-has w ↦ rw w.self-is (
-        let q = w.step.ensures in
-        record { taken = taken_step l.taken (sym c.has.ensures ∙ w.if-not-has.true) q.faces q.planes; long = q.same_room ∙ l.long; width = q.same_width ∙ l.width; fresh = q.marks })
+          let q = w.step.ensures in
+          record { taken = taken_step l.taken (sym c.has.ensures ∙ w.if-not-has.true) q.faces q.planes; long = q.same_room ∙ l.long; width = q.same_width ∙ l.width; fresh = q.marks })
       | else-not-has w ↦ rw w.self-is (record { taken = taken_skip l.taken (sym c.has.ensures ∙ w.if-not-has.false); long = l.long; width = l.width; fresh = fresh_later l.fresh (omega arith) })
     ]
