@@ -1,5 +1,5 @@
 // The start: P, Q, R and S, and the four faces over A, B, C and D.
-ghost use Rattle.std.specs.Prelude.{◌≡◌, [], ◌<◌, ◌≤◌, length, get_or};
+ghost use Rattle.std.specs.Prelude.{◌≡◌, [], Bool, ℕ, ◌<◌, ◌≤◌, length, get_or};
 ghost use Rattle.laws.specs.Lists.{first, upward, Laid};
 ghost use Rattle.touches.specs.Touches.{touch, touch_count};
 ghost use Rattle.rules.specs.Start.{start, corners, start_faces, is_start};
@@ -31,13 +31,24 @@ impl Start {
     }
 }
 
+// The first touch that suits.
+fn first_touch<F: Fn(TouchNo) -> bool>(list: &TouchList<'_>, suits: F) -> Option<TouchNo>
+    requires { (k : TouchNo) → k.0 < touch_count list.now → F.pre suits k }
+    ensures { (q : ℕ → Bool) → ((k : TouchNo) → (b : Bool) → F.post suits k b → b ≡ q k.0)
+        → result ≡ found_of (first q (upward 0 (touch_count list.now))) }
+{
+    (0..list.count() as u16).map(TouchNo).find(
+        |k|
+            requires { F.pre suits k.now }
+        { suits(*k) },
+    )
+}
+
 // Q: the first touch apart from P.
 fn find_q(list: &TouchList<'_>) -> Option<TouchNo>
     ensures { result ≡ found_of (first (is_apart (touch list.now)) (upward 0 (touch_count list.now))) }
 {
-    (0..list.count() as u16)
-        .map(TouchNo)
-        .find(|k| touch(list, TouchNo(0)) != touch(list, *k))
+    first_touch(list, |k| touch(list, TouchNo(0)) != touch(list, k))
 }
 
 // R: the first touch off the line of P and Q.
@@ -47,9 +58,7 @@ fn find_r(list: &TouchList<'_>, q: TouchNo) -> Option<TouchNo>
 {
     let p = touch(list, TouchNo(0));
     let q = touch(list, q);
-    (0..list.count() as u16)
-        .map(TouchNo)
-        .find(|k| !in_line(p, q, touch(list, *k)))
+    first_touch(list, |k| !in_line(p, q, touch(list, k)))
 }
 
 // S: the first touch off the plane of P, Q and R.
@@ -60,9 +69,7 @@ fn find_s(list: &TouchList<'_>, q: TouchNo, r: TouchNo) -> Option<TouchNo>
     let p = touch(list, TouchNo(0));
     let q = touch(list, q);
     let r = touch(list, r);
-    (0..list.count() as u16)
-        .map(TouchNo)
-        .find(|k| volume(p, q, r, touch(list, *k)) != 0)
+    first_touch(list, |k| volume(p, q, r, touch(list, k)) != 0)
 }
 
 // P, Q, R and S, or none where the touches are flat.
