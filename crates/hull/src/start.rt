@@ -27,7 +27,7 @@ impl Start {
     pub(crate) fn has(self, k: TouchNo) -> bool
         ensures { result ≡ is_start (start_of self) k.0 }
     {
-        [self.p.0, self.q.0, self.r.0, self.s.0].contains(&k.0)
+        [self.p, self.q, self.r, self.s].contains(&k)
     }
 }
 
