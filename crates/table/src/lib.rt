@@ -18,7 +18,7 @@ pub const ENOUGH: usize = TouchList::ENOUGH_FACES * STRIDE;
 pub fn numbers_of(n: u16) -> usize
     ensures { result ≡ n * stride }
 {
-    n as usize * STRIDE
+    usize::from(n) * STRIDE
 }
 
 // How many faces there is room for.
@@ -26,6 +26,13 @@ pub fn room(faces: &[u16]) -> usize
     ensures { result ≡ room faces.now }
 {
     faces.len() / STRIDE
+}
+
+// The faces of the table, one after another.
+pub fn faces(faces: &[u16]) -> &[[u16; 3]]
+    ensures { result.now ≡ faces_in faces.now }
+{
+    faces.as_chunks().0
 }
 
 // Number i of the table, 0 past its end.
@@ -39,8 +46,7 @@ fn number(faces: &[u16], i: usize) -> u16
 pub fn face(faces: &[u16], f: FaceNo) -> [TouchNo; 3]
     ensures { plain result ≡ face_at faces.now f.0 }
 {
-    let n = f.0;
-    let at = n as usize * STRIDE;
+    let at = usize::from(f.0) * STRIDE;
     [
         TouchNo(number(faces, at)),
         TouchNo(number(faces, at + 1)),
@@ -77,25 +83,18 @@ pub fn put_faces(faces: &mut [u16], hull: &[[u16; 3]]) -> bool
     true
 }
 
-// Touch k is one of n.
-fn is_one_of(k: TouchNo, n: usize) -> bool
-    ensures { result ≡ ltb k.0 n }
+// Each corner of face f is one of n touches.
+fn is_among(f: [u16; 3], n: usize) -> bool
+    ensures { result ≡ among n f }
 {
-    (k.0 as usize) < n
+    f.iter().all(|k| usize::from(*k) < n)
 }
 
-fn is_among(f: [TouchNo; 3], n: usize) -> bool
-    ensures { result ≡ among n (plain f) }
+// Each corner of each of the faces is one of n touches.
+fn all_among(faces: &[[u16; 3]], n: usize) -> bool
+    ensures { result ≡ every (among n) faces.now }
 {
-    is_one_of(f[0], n) & is_one_of(f[1], n) & is_one_of(f[2], n)
-}
-
-// Each corner of each face is one of n touches.
-fn all_among(faces: &[u16], n: usize) -> bool
-    requires { room faces.now ≤ most_faces }
-    ensures { result ≡ every (among n) (faces_in faces.now) }
-{
-    (0..room(faces) as u16).all(|i| is_among(face(faces, FaceNo(i)), n))
+    faces.iter().all(|f| is_among(*f, n))
 }
 
 // Refusal 6's test of a table over n touches.
@@ -106,5 +105,5 @@ pub fn is_usable(faces: &[u16], n: usize) -> bool
     !faces.is_empty()
         && faces.len() % STRIDE == 0
         && room(faces) <= TouchList::MOST_FACES
-        && all_among(faces, n)
+        && all_among(self::faces(faces), n)
 }
