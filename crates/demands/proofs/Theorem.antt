@@ -4,6 +4,7 @@ use mathlib.Core.List.{◌++◌}
 use Rattle.std.specs.Prelude.{ℕ, Result}
 use Rattle.laws.proofs.Exact.{plus_zero_is}
 use Rattle.touches.specs.declared.refusal.Refusal.{Refusal}
+use Rattle.touches.specs.Check.{checked_count}
 use Rattle.touches.proofs.SoundLaws.{sound_accepted, near_place}
 use Rattle.hull.specs.Build.{hull_of, table_after}
 use Rattle.hull.specs.declared.build.Hull.{Hull}
@@ -24,7 +25,7 @@ use Rattle.demands.proofs.PlumbLineLaws.{plumb_line}
 
 pub demands : Demands
 demands = record {
-  check_passed = sound_accepted;
+  check_passed = λ cs s. let e = sound_accepted cs s in (e, ap checked_count e);
   check_refused = check_first;
   build_refused = build_first;
   place_refused = place_first;

@@ -12,7 +12,7 @@ use Rattle.touches.specs.declared.refusal.Refusal.TheVariants.{AllTouchesOnOnePl
 use Rattle.touches.specs.Limits.{most_touches, most_faces, reach}
 use Rattle.touches.specs.Touches.{touch, touch_count, Near, Sound, FirstStray}
 use Rattle.touches.specs.Refusals.{number, place as touch_of, coordinates_not_in_threes, too_many_touches, coordinate_out_of_range, all_touches_on_one_plane, face_table_too_small, no_such_face, place_out_of_range, place_in_no_triangle, record_length_wrong, record_version_unknown, record_touch_cut_short, touch_room_too_small, record_room_too_small}
-use Rattle.touches.specs.Check.{checked}
+use Rattle.touches.specs.Check.{checked, checked_count}
 use Rattle.volume.specs.Volume.{Vol, normal, offset, in_line}
 use Rattle.rules.specs.Faces.{Face, corner}
 use Rattle.rules.specs.Building.{volume}
@@ -273,7 +273,7 @@ pub record Demands : Type 0 where
   pub write_refused : (cs : List ℤ) (old : List ℕ) (r : Refusal) → (written cs old ≡ Err r) ↔ write_order cs old r
   pub copy_refused : (b old : List ℕ) (r : Refusal) → (copied b old ≡ Err r) ↔ copy_order b old r
   -- a list that passes 1 to 3 has no refusal, and its touches are counted
-  pub check_passed : (cs : List ℤ) → Sound cs → checked cs ≡ Ok cs
+  pub check_passed : (cs : List ℤ) → Sound cs → (checked cs ≡ Ok cs) × (checked_count (checked cs) ≡ touch_count cs)
   -- lent tables stay untouched on refusal
   pub build_untouched : (cs : List ℤ) (old : List ℕ) (r : Refusal) → built cs old ≡ Err r → after_build cs old ≡ old
   pub read_untouched : (b : List ℕ) (old : List ℤ) (r : Refusal) → read b old ≡ Err r → after_read b old ≡ old

@@ -48,6 +48,10 @@ abs_signed : (s : Bool) (n : ℕ) → nat_abs (signed s n) ≡ n
 abs_signed false n = refl
 abs_signed true n = abs_neg (pos n)
 
+-- the size of what a float holds is the integer's
+pub size_is : {x : Float} {z : ℤ} (h : Holds x z) → h.size ≡ nat_abs z
+size_is h = sym (abs_signed h.sign h.size) ∙ ap nat_abs h.is
+
 pub round_holds : (f : Format) (s : Bool) (n : ℕ) (z : ℤ) → nat_abs z ≤ 2 ^ prec f → signed s n ≡ z → Holds (round f s n 1) z
 round_holds f s n z h e = record { sign = s; size = n; value = round_whole f s n (subst (λ (k : ℕ). k ≤ 2 ^ prec f) (sym (ap nat_abs e) ∙ abs_signed s n) h); is = e }
 

@@ -1,17 +1,18 @@
 -- Fractions: their order, and how two are compared by whole part and remainder, then the remainders turned over.
-use mathlib.Core.Path.{◌≡◌, sym, ◌∙◌, ap, ap₂, subst}
-use mathlib.Core.Bool.{Bool, false, cond}
+use mathlib.Core.Path.{◌≡◌, refl, sym, ◌∙◌, ap, ap₂, subst}
+use mathlib.Core.Bool.{Bool, true, false, cond}
 use mathlib.Core.List.{[], ◌∷◌}
-use Prim.Native.Nat.{ℕ, ◌/◌, ◌%◌, ◌<◌, ◌≤◌}
+use Prim.Native.Nat.{ℕ, suc, ◌/◌, ◌%◌, ◌<◌, ◌≤◌}
 use native.Mathlib.Nat.{div-add-mod', mod-lt, pos_of_ne-zero}
 use native.Mathlib.Omega.{arith}
-use lib.IntN.{ℤ, pos, ◌-ℤ◌, ◌*ℤ◌, *ℤ_comm}
-use lib.Signed.{◌≤ℤ◌, ◌<ℤ◌, lt_z}
+use lib.Dec.{ltb→lt}
+use lib.IntN.{ℤ, pos, negsuc, neg_ℤ, ◌+ℤ◌, ◌-ℤ◌, ◌*ℤ◌, *ℤ_comm}
+use lib.Signed.{◌≤ℤ◌, ◌<ℤ◌, lt_z, quot_z, rem_z}
 use Rattle.laws.specs.Fractions.{compared, Parts}
 use Rattle.laws.proofs.Tests.{same_test}
-use Rattle.laws.proofs.Integers.{dif_is}
-use Rattle.laws.proofs.Order.{zs, pos_is, <→≤, ≡→≤, ≤-<_trans, pos_mono, mul_nonneg, mul_pos_pos, sub_nonneg, sub_pos, of_sub_nonneg, cancel_nonneg, lt→le1, true_lt, false_lt}
-use Rattle.laws.proofs.Ring.{o, one, var, ◌:+◌, ◌:-◌, ◌:*◌, neg}
+use Rattle.laws.proofs.Integers.{up_neg, dn_neg, sum_is, dif_is}
+use Rattle.laws.proofs.Order.{zs, pos_is, <→≤, ≡→≤, ≤-<_trans, pos_mono, neg_mono, mul_nonneg, mul_pos_pos, sub_nonneg, sub_pos, of_sub_nonneg, cancel_nonneg, lt→le1, true_lt, false_lt}
+use Rattle.laws.proofs.Ring.{o, one, var, ◌:+◌, ◌:-◌, ◌:*◌, neg, ring}
 use Rattle.laws.proofs.Certificates.{order, strict, combine, eqn, eq, le, lt}
 
 -- ---- a/b ≤ c/d ≤ e/f
@@ -33,6 +34,22 @@ module _ {A : Type 0} (a b c d : ℤ) (x y z : A) where
     where
       even : (u v : ℤ) → u ≡ v → lt_z u v ≡ false
       even u v e = false_lt (≡→≤ (sym e))
+
+-- an answer worked on, and two answers alike
+pub compared_map : {A B : Type 0} (g : A → B) (a b c d : ℤ) (x y z : A) → g (compared a b c d x y z) ≡ compared a b c d (g x) (g y) (g z)
+compared_map {A} {B} g a b c d x y z = go (lt_z (a *ℤ d) (c *ℤ b)) (lt_z (c *ℤ b) (a *ℤ d))
+  where
+    go : (s t : Bool) → g (cond s x (cond t z y)) ≡ cond s (g x) (cond t (g z) (g y))
+    go true t = refl
+    go false true = refl
+    go false false = refl
+
+pub compared_two : {A : Type 0} (a b c d : ℤ) (x y : A) → compared a b c d x y y ≡ cond (lt_z (a *ℤ d) (c *ℤ b)) x y
+compared_two {A} a b c d x y = ap (λ (v : A). cond (lt_z (a *ℤ d) (c *ℤ b)) x v) (either (lt_z (c *ℤ b) (a *ℤ d)))
+  where
+    either : (t : Bool) → cond t y y ≡ y
+    either true = refl
+    either false = refl
 
 -- turned over, the greater becomes the less: r/b against s/d is d/s against b/r
 pub compared_turned : {A : Type 0} (r b s d : ℤ) (x y z : A) → compared r b s d x y z ≡ compared d s b r x y z
@@ -86,9 +103,44 @@ module _ {A : Type 0} (r b s d : ℤ) (x y z : A) where
   pub some_none : pos 0 <ℤ r → s ≡ pos 0 → pos 0 <ℤ d → compared r b s d x y z ≡ z
   some_none h e k = compared_more r b s d x y z (strict (r ∷ b ∷ s ∷ d ∷ []) (eq (neg (var 1)) (var 2) o ∷ lt 1 o (var 0 :* var 3) ∷ []) 0 (var 2 :* var 1) (var 0 :* var 3) tt e (mul_pos_pos h k))
 
--- ---- the parts of naturals by the machine's division
+-- ---- the parts by the machine's division: of naturals, and of whole numbers, whose quotient is rounded towards 0
 pub parts_nat : (a b : ℕ) → 0 < b → Parts (pos a) (pos b) (pos (a / b)) (pos (a % b))
 parts_nat a b h = record { sum = ap pos (sym (div-add-mod' a b)); over = omega (arith, zs, pos_is 0, pos_is (a % b)); under = omega (arith, zs, pos_is b, pos_is (a % b), mod-lt a h) }
+
+record Cut (a b q r : ℤ) : Type 0 where
+  sum : a ≡ q *ℤ b +ℤ r
+  low : neg_ℤ b <ℤ r
+  high : r <ℤ b
+
+cut : (a b : ℤ) → pos 0 <ℤ b → Cut a b (quot_z a b) (rem_z a b)
+cut a (negsuc b) h = absurd h.lt
+cut (pos a) (pos b) h = let m = parts_nat a b (ltb→lt 0 b h.lt) in record { sum = m.sum; low = omega (arith, zs, up_neg (pos b), dn_neg (pos b), pos_is b, pos_is 0, pos_is (a % b)); high = m.under }
+cut (negsuc a) (pos b) h = let m = parts_nat (suc a) b (ltb→lt 0 b h.lt) in record {
+  sum = ap neg_ℤ m.sum ∙ ring (pos (suc a / b) ∷ pos b ∷ pos (suc a % b) ∷ []) (neg (var 0 :* var 1 :+ var 2)) (neg (var 0) :* var 1 :+ neg (var 2)) tt;
+  low = turn (pos (suc a % b)) (pos b) m.under;
+  high = ≤-<_trans (neg_mono m.over) h;
+}
+  where
+    turn : (r b : ℤ) → r <ℤ b → neg_ℤ b <ℤ neg_ℤ r
+    turn r b l = omega (arith, zs, up_neg b, dn_neg b, up_neg r, dn_neg r)
+
+module _ (a b : ℤ) (h : pos 0 <ℤ b) where
+  pub parts_over : pos 0 ≤ℤ rem_z a b → Parts a b (quot_z a b) (rem_z a b)
+  parts_over k = record { sum = (cut a b h).sum; over = k; under = (cut a b h).high }
+
+  -- a remainder below 0 takes one from the whole part
+  pub parts_under : rem_z a b <ℤ pos 0 → Parts a b (quot_z a b -ℤ pos 1) (rem_z a b +ℤ b)
+  parts_under k = record {
+    sum = (cut a b h).sum ∙ ring (quot_z a b ∷ b ∷ rem_z a b ∷ []) (var 0 :* var 1 :+ var 2) ((var 0 :- one) :* var 1 :+ (var 2 :+ var 1)) tt;
+    over = rise (rem_z a b) (cut a b h).low;
+    under = stay (rem_z a b) k;
+  }
+    where
+      rise : (r : ℤ) → neg_ℤ b <ℤ r → pos 0 ≤ℤ (r +ℤ b)
+      rise r l = omega (arith, zs, up_neg b, dn_neg b, sum_is r b, pos_is 0)
+
+      stay : (r : ℤ) → r <ℤ pos 0 → (r +ℤ b) <ℤ b
+      stay r l = omega (arith, zs, sum_is r b, pos_is 0)
 
 -- ---- one turn, of naturals
 module _ {A : Type 0} (a b c d : ℕ) (hb : 0 < b) (hd : 0 < d) (x y z : A) where

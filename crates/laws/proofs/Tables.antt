@@ -6,7 +6,7 @@ use Prim.Native.Nat.{ℕ, zero, suc, ◌+◌, ◌-◌, ◌<◌, ◌≤◌}
 use native.Mathlib.Numerals.{add-one}
 use native.Mathlib.Omega.{arith}
 use lib.ListN.{get_or-append, length, take, drop, get_or, set, length-append, length-take, length-drop, take-append-drop}
-use lib.Seq.{take-suc, set_split, append_snoc, length-take-le, take_at, drop_at, get_or-drop, get_or-append-add, get_or-take, take-append_seam, drop-drop}
+use lib.Seq.{sets, sets-eq, take-suc, set_split, append_snoc, length-take-le, take_at, drop_at, get_or-drop, get_or-append-add, get_or-take, take-append_seam, drop-drop}
 use Rattle.laws.specs.Lists.{only_if, keep, lay, Laid}
 use Rattle.laws.proofs.Members.{keep_append, length_keep}
 
@@ -89,6 +89,18 @@ laid_prefix i l h =
 
 pub laid_one : {A : Type 0} (at : ℕ) (a : A) (old : List A) → at < length old → Laid at (a ∷ []) old (at + 1) (set old at a)
 laid_one at a old h = record { next = refl; table = sym (lay_one at a old h) }
+
+-- a run of stores
+pub laid_sets : {A : Type 0} (at : ℕ) (new old : List A) → at + length new ≤ length old → Laid at new old (at + length new) (sets old at new)
+unfolding lay
+laid_sets at new old h = record { next = refl; table = sets-eq new old at h }
+
+pub laid_three : {A : Type 0} (at : ℕ) (a b c : A) (old : List A) → at + 3 ≤ length old
+    → Laid at (a ∷ b ∷ c ∷ []) old (at + 3) (set (set (set old at a) (at + 1) b) (at + 2) c)
+laid_three at a b c old h =
+    let e : at + 1 ≡ suc at = omega arith in
+    let g : at + 2 ≡ suc (suc at) = omega arith in
+    rw (e, g) (laid_sets at (a ∷ b ∷ c ∷ []) old h)
 
 module _ {A : Type 0} {r : ℕ} {new old after : List A} (h : Laid 0 new old r after) where
   pub laid_past : (i : ℕ) (d : A) → r ≤ i → get_or after i d ≡ get_or old i d

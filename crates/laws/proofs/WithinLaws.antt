@@ -1,10 +1,10 @@
 -- How large a sum, a difference and a product can be, and which signed widths hold them.
 use mathlib.Core.Path.{◌≡◌, refl}
-use Prim.Native.Nat.{ℕ, zero, suc, ◌+◌, ◌*◌, ◌^◌, ◌≤◌, ◌<◌}
-use native.Mathlib.Nat.{le_trans, mul-le-mul}
+use Prim.Native.Nat.{ℕ, zero, suc, ◌+◌, ◌*◌, ◌/◌, ◌%◌, ◌^◌, ◌≤◌, ◌<◌}
+use native.Mathlib.Nat.{le_trans, mul-le-mul, div-le_self, mod-le}
 use native.Mathlib.Omega.{arith}
 use lib.IntN.{ℤ, pos, negsuc, neg_ℤ, nat_abs, ◌+ℤ◌, ◌-ℤ◌, ◌*ℤ◌}
-use lib.Signed.{mag}
+use lib.Signed.{mag, quot_z, rem_z}
 use mir.Syntax.{Width}
 use mir.Val.{SFits, hbits}
 use Rattle.laws.specs.Numbers.{Within}
@@ -51,6 +51,24 @@ module _ {A B : ℕ} {x y : ℤ} (h : Within A x) (k : Within B y) where
 
 pub within_sub : {A B : ℕ} {x y : ℤ} → Within A x → Within B y → Within (A + B) (x -ℤ y)
 within_sub h k = within_add h (within_neg k)
+
+-- a quotient rounded towards 0, and its remainder
+abs_quot : (x y : ℤ) → nat_abs (quot_z x y) ≤ nat_abs x
+abs_quot (pos a) (pos b) = div-le_self a b
+abs_quot (pos a) (negsuc b) = omega (arith, abs_neg (pos (a / suc b)), div-le_self a (suc b))
+abs_quot (negsuc a) (pos b) = omega (arith, abs_neg (pos (suc a / b)), div-le_self (suc a) b)
+abs_quot (negsuc a) (negsuc b) = div-le_self (suc a) (suc b)
+
+abs_rem : (x y : ℤ) → nat_abs (rem_z x y) ≤ nat_abs x
+abs_rem (pos a) y = mod-le a (nat_abs y)
+abs_rem (negsuc a) y = omega (arith, abs_neg (pos (suc a % nat_abs y)), mod-le (suc a) (nat_abs y))
+
+module _ {A : ℕ} {x : ℤ} (y : ℤ) (h : Within A x) where
+  pub within_quot : Within A (quot_z x y)
+  within_quot = record { within = le_trans (abs_quot x y) h.within }
+
+  pub within_rem : Within A (rem_z x y)
+  within_rem = record { within = le_trans (abs_rem x y) h.within }
 
 -- a signed width holds what is below half its power
 pub within_fits : (w : Width) {A : ℕ} {x : ℤ} → A < 2 ^ hbits w → Within A x → SFits w x

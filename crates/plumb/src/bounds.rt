@@ -11,7 +11,7 @@ ghost use Rattle.plumb.specs.Bounds.{bounds_of, rest_at};
 
 use crate::fractions::Fraction;
 use points::whole::{WholePlane, plane_on};
-use touches::{FaceNo, Place, TouchList};
+use touches::{Place, TouchList};
 
 // What the faces so far say: whether the upright ones admit the line, and the tightest bounds of its height.
 #[derive(Clone, Copy)]
@@ -64,8 +64,8 @@ pub(crate) fn tightest(list: &TouchList<'_>, faces: &[u16], q: Place) -> Bounds
         above: None,
         below: None,
     };
-    for i in 0..table::room(faces) as u16 {
-        let p = plane_on(list, table::face(faces, FaceNo(i)));
+    for &f in table::faces(faces) {
+        let p = plane_on(list, touches::corners(f));
         b = look_at_face(b, p.normal.z, rest(p, q));
     }
     b

@@ -1,3 +1,4 @@
 pub mod Sizes
 pub mod Whole
 pub mod Doubles
+pub mod Corners

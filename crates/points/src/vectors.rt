@@ -53,6 +53,5 @@ pub fn normal(a: Place, b: Place, c: Place) -> Point
 pub fn in_line(a: Place, b: Place, c: Place) -> bool
     ensures { result ≡ in_line a b c }
 {
-    let n = normal(a, b, c);
-    (n.x == 0) & (n.y == 0) & (n.z == 0)
+    normal(a, b, c) == Point::ORIGIN
 }

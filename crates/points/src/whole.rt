@@ -4,7 +4,7 @@ ghost use Rattle.touches.specs.Touches.{touch, plain};
 ghost use Rattle.rules.specs.Demands.{FaceOf};
 ghost use Rattle.points.specs.Whole.{whole_plane, plane_on};
 
-use crate::touch::touch;
+use crate::touch::corners;
 use crate::vectors::{dot, normal};
 use std::marker::Model;
 use touches::{Place, Point, TouchList, TouchNo};
@@ -40,5 +40,6 @@ pub fn plane_on(list: &TouchList<'_>, f: [TouchNo; 3]) -> WholePlane
     requires { FaceOf list.now (plain f) }
     ensures { result ≡ plane_on (touch list.now) (plain f) }
 {
-    through(touch(list, f[0]), touch(list, f[1]), touch(list, f[2]))
+    let [a, b, c] = corners(list, f);
+    through(a, b, c)
 }

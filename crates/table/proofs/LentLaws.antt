@@ -49,6 +49,10 @@ module _ (h : List Face) (rest : List ℕ) where
 
 -- ---- a face list laid into a table
 module _ (h : List Face) (old : List ℕ) where
+  pub room_laid : length h ≤ room (lay 0 (lent h) old)
+  unfolding lay
+  room_laid = room_front h (drop (0 + length (lent h)) old)
+
   pub faces_laid : take (length h) (faces_in (lay 0 (lent h) old)) ≡ map numbers h
   unfolding lay
   faces_laid = faces_front h (drop (0 + length (lent h)) old)

@@ -1,4 +1,5 @@
 pub mod DecimalLaws
 pub mod RoomLaws
 pub mod WholeLaws
+pub mod LineLaws
 pub mod Examples

@@ -1,28 +1,39 @@
--- Laws of `stray_from`, at the place that a loop has come to.
--- Assumes nothing.
-use mathlib.Core.Path.{◌≡◌}
-use mathlib.Core.Bool.{true, false}
-use mathlib.Core.List.{List}
-use Prim.Native.Nat.{ℕ, ◌+◌, ◌/◌, ◌<◌, ◌≤◌}
+-- The first coordinate out of range, and the touch that it belongs to.
+use mathlib.Core.Path.{◌≡◌, refl, sym, ap, ◌∙◌}
+use mathlib.Core.Bool.{Bool, true, false, not}
+use mathlib.Core.List.{List, [], ◌∷◌}
+use Prim.Native.Nat.{ℕ, suc, ◌+◌, ◌/◌}
 use native.Mathlib.Numerals.{add-one}
-use lib.IntN.{ℤ, pos}
-use lib.ListN.{length, drop, get_or}
-use lib.Seq.{drop-cons, drop-length}
-use native.Mathlib.Omega.{arith}
+use lib.IntN.{ℤ}
+use Rattle.std.specs.Prelude.{None, Some, option_map, cond, position}
+use Rattle.std.specs.List.{position_from}
+use Rattle.std.proofs.lemmas.Iterator.Adapters.{position_from-zero}
+use Rattle.touches.specs.declared.TouchNo.{TouchNo}
 use Rattle.touches.specs.Limits.{in_range}
-use Rattle.std.specs.Prelude.{None, Some}
-use Rattle.touches.specs.Check.{stray_from}
+use Rattle.touches.specs.Check.{pick, stray_from}
 use Rattle.touches.specs.Touches.{touch_no}
 
-module _ (s : List ℤ) (i : ℕ) (h : i < length s) where
-  pub stray_here : in_range (get_or s i (pos 0)) ≡ false → stray_from i (drop i s) ≡ Some (touch_no (i / 3))
-  unfolding stray_from
-  stray_here e = rw (drop-cons s i (pos 0), e)
+abbrev far : ℤ → Bool
+far x = not (in_range x)
 
-  pub stray_past : in_range (get_or s i (pos 0)) ≡ true → stray_from i (drop i s) ≡ stray_from (i + 1) (drop (i + 1) s)
-  unfolding stray_from
-  stray_past e = rw (add-one, drop-cons s i (pos 0), e)
+abbrev touch_of : ℕ → TouchNo
+touch_of i = touch_no (i / 3)
 
-pub stray_none : (s : List ℤ) (i : ℕ) → i ≤ length s → length s ≤ i → stray_from i (drop i s) ≡ None
+stray_at : (i : ℕ) (cs : List ℤ) → option_map touch_of (position_from far i cs) ≡ stray_from i cs
 unfolding stray_from
-stray_none s i h k = let e : i ≡ length s = omega arith in rw (e, drop-length)
+stray_at i [] = refl
+stray_at i (x ∷ cs) = go (in_range x) (rw add-one (stray_at (suc i) cs))
+  where
+    go : (b : Bool) → option_map touch_of (position_from far (i + 1) cs) ≡ stray_from (suc i) cs → option_map touch_of (cond (not b) (Some i) (position_from far (i + 1) cs)) ≡ pick b (stray_from (suc i) cs) (Some (touch_of i))
+    go true e = e
+    go false e = refl
+
+module _ (cs : List ℤ) where
+  stray_is : option_map touch_of (position far cs) ≡ stray_from 0 cs
+  stray_is = ap (option_map touch_of) (position_from-zero far cs) ∙ stray_at 0 cs
+
+  pub stray_none : position far cs ≡ None → None ≡ stray_from 0 cs
+  stray_none e = ap (option_map touch_of) (sym e) ∙ stray_is
+
+  pub stray_some : {i : ℕ} → position far cs ≡ Some i → Some (touch_of i) ≡ stray_from 0 cs
+  stray_some e = ap (option_map touch_of) (sym e) ∙ stray_is

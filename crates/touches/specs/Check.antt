@@ -1,7 +1,7 @@
 -- 01 'Refusal numbers': 1, 2 and 3 of a lent coordinate list, in this order; the place of 3 is the first such touch.
 use Rattle.std.specs.Prelude.{◌≡◌, ℕ, suc, ◌*◌, ◌/◌, ◌%◌, List, [], ◌∷◌, Bool, true, false, leb, eqb, ℤ, length, Option, None, Some, Result, Ok, Err}
 use Rattle.touches.specs.Limits.{most_touches, in_range, place_in_range}
-use Rattle.touches.specs.Touches.{touch_no, Near}
+use Rattle.touches.specs.Touches.{touch_count, touch_no, Near}
 use Rattle.touches.specs.declared.TouchNo.{TouchNo}
 use Rattle.touches.specs.declared.refusal.Refusal.{Refusal}
 use Rattle.touches.specs.declared.refusal.Refusal.TheVariants.{CoordinatesNotInThrees, TooManyTouches, CoordinateOutOfRange, PlaceOutOfRange}
@@ -26,6 +26,11 @@ checked cs =
     pick (eqb (length cs % 3) 0)
     (pick (leb (length cs) (most_touches * 3)) (of_stray cs (stray_from 0 cs)) (Err TooManyTouches))
     (Err CoordinatesNotInThrees)
+
+-- its touch count, 0 where it is refused
+abbrev pub checked_count : Result (List ℤ) Refusal → ℕ
+checked_count (Ok l) = touch_count l
+checked_count (Err r) = 0
 
 -- a refusal of the list is the call's answer; else the call goes on
 abbrev pub if_accepted : {A B : Type 0} → Result B Refusal → Result A Refusal → Result A Refusal

@@ -1,5 +1,6 @@
 -- 01 'Refusal numbers': the number of each refusal by its name, which texts/meanings.tsv has as its key, and the touch that it speaks of.
-use Rattle.std.specs.Prelude.{ℕ, Result, Ok, Err}
+use Rattle.std.specs.Prelude.{ℕ, List, ◌∷◌, ◌++◌, Result, Ok, Err}
+use Rattle.std.specs.Fmt.{decimal}
 use Rattle.touches.specs.declared.TouchNo.{TouchNo}
 use Rattle.touches.specs.declared.refusal.Refusal.{Refusal}
 use Rattle.touches.specs.declared.refusal.Refusal.TheVariants.{CoordinatesNotInThrees, TooManyTouches, CoordinateOutOfRange, AllTouchesOnOnePlane, FaceTableTooSmall, NoSuchFace, PlaceOutOfRange, RecordLengthWrong, RecordVersionUnknown, RecordTouchCutShort, TouchRoomTooSmall, RecordRoomTooSmall, PlaceInNoTriangle}
@@ -83,3 +84,7 @@ number_given (Err r) = number r
 abbrev pub place_given : {A : Type 0} → Result A Refusal → TouchNo
 place_given (Ok a) = touch_no 0
 place_given (Err r) = place r
+
+-- as it is printed: `refused`, number and place
+abbrev pub shown : Refusal → List ℕ
+shown r = 114 ∷ 101 ∷ 102 ∷ 117 ∷ 115 ∷ 101 ∷ 100 ∷ 32 ∷ decimal (number r) ++ 32 ∷ decimal (place r).0

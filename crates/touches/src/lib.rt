@@ -1,11 +1,11 @@
-// The touch list: its limits, touch and face numbers, refusals, and the check of a lent list.
+// The touch list: its limits, touch and face numbers, points and places, refusals, and the check of a lent list.
 #![tactic(auto)]
 
 pub mod list;
 pub mod place;
 pub mod refusal;
 
-ghost use Rattle.std.specs.Prelude.{◌≡◌, ◌*◌, ◌≤◌, length};
+ghost use Rattle.std.specs.Prelude.{◌≡◌, ◌*◌, ◌≤◌, length, not, position};
 ghost use Rattle.touches.specs.Limits.{most_touches, in_range, place_in_range};
 ghost use Rattle.touches.specs.Touches.{plain};
 ghost use Rattle.touches.specs.Check.{stray_from, checked};
@@ -20,12 +20,16 @@ pub struct TouchNo(pub u16);
 #[derive(Clone, Copy, Debug, PartialEq, Eq)]
 pub struct FaceNo(pub u16);
 
-// A touch, a place that is asked about, or the difference of two: room for every number that V works with.
+// A place that is asked about, the difference of two places, or a normal: room for every number that V works with.
 #[derive(Clone, Copy, Debug, PartialEq, Eq)]
 pub struct Point {
     pub x: i64,
     pub y: i64,
     pub z: i64,
+}
+
+impl Point {
+    pub const ORIGIN: Point = Point { x: 0, y: 0, z: 0 };
 }
 
 #[derive(Clone, Copy)]
@@ -55,17 +59,20 @@ pub fn place_in_range(q: Point) -> bool
     in_range(q.x) & in_range(q.y) & in_range(q.z)
 }
 
-// The first touch with a coordinate out of range.
+// The first coordinate out of range.
+fn first_far(coords: &[i32]) -> Option<usize>
+    ensures { result ≡ position (λ x. not (in_range x)) coords.now }
+{
+    coords.iter().position(|x| !in_range(i64::from(*x)))
+}
+
+// The touch that it belongs to.
 fn first_stray(coords: &[i32]) -> Option<TouchNo>
     requires { length coords.now ≤ most_touches * 3 }
     ensures { result ≡ stray_from 0 coords.now }
 {
-    for (i, x) in coords.iter().enumerate() {
-        if !in_range(*x as i64) {
-            return Some(TouchNo((i / 3) as u16));
-        }
-    }
-    None
+    let i = first_far(coords)?;
+    Some(TouchNo((i / 3) as u16))
 }
 
 // Refusals 1, 2 and 3 of a lent coordinate list, in this order.

@@ -1,6 +1,6 @@
 // Why a call was refused. The name of each refusal is the key of its text in texts/meanings.tsv.
-ghost use Rattle.std.specs.Prelude.{◌≡◌};
-ghost use Rattle.touches.specs.Refusals.{number, place};
+ghost use Rattle.std.specs.Prelude.{◌≡◌, Some};
+ghost use Rattle.touches.specs.Refusals.{number, place, shown};
 
 use crate::TouchNo;
 use std::error::Error;
@@ -57,6 +57,8 @@ impl Refusal {
 }
 
 impl fmt::Display for Refusal {
+    ghost output = { λ r. Some (shown r) };
+
     fn fmt<W: fmt::Write>(&self, f: &mut fmt::Formatter<W>) -> fmt::Result {
         write!(f, "refused {} {}", self.number(), self.place().0)
     }

@@ -1,5 +1,5 @@
 use Rattle.plumb.proofs.BoundsLaws.{Read}
 use Rattle.plumb.proofs.bounds.tightest.Given as goal
 
-abbrev pub invariant-loop-i : goal.invariant-loop-i
-invariant-loop-i l = Read l.list l.faces l.q.x l.q.y l.i l.b
+abbrev pub invariant-loop-f : goal.invariant-loop-f
+invariant-loop-f l = Read l.list l.faces l.q.x l.q.y l.f-index l.b
