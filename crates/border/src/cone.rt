@@ -9,10 +9,10 @@ ghost use Rattle.border.specs.Marks.{FacesOver, Marked, unmarked};
 ghost use Rattle.border.specs.Cone.{cone_side, cone_on};
 
 use crate::marks::Marks;
-use crate::put;
 use touches::TouchNo;
 
 // The new face on side a→b of a visible face, if the side is of the border.
+#[tactic(auto, using(laws::proofs::Tables::laid_one, laws::proofs::Tables::laid_none))]
 fn add_side(
     table: &mut [[u16; 3]],
     at: usize,
@@ -25,8 +25,11 @@ fn add_side(
         × (at + length (cone_side (unmarked marks.now.table.now marks.now.width k.0) k.0 (side a.0 b.0)) ≤ length table.old) }
     ensures { Laid at (cone_side (unmarked marks.now.table.now marks.now.width k.0) k.0 (side a.0 b.0)) table.old result table.new }
 {
-    let inner = marks.is_marked(b, a, k);
-    put(table, at, [a.0, b.0, k.0], !inner)
+    if marks.is_marked(b, a, k) {
+        return at;
+    }
+    table[at] = [a.0, b.0, k.0];
+    at + 1
 }
 
 // The new faces on the sides of one visible face.

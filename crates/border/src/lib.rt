@@ -5,7 +5,7 @@ mod cone;
 mod marks;
 
 ghost use Rattle.std.specs.Prelude.{◌≡◌, map, ◌+◌, ◌<◌, ◌≤◌, length};
-ghost use Rattle.laws.specs.Lists.{only_if, Laid};
+ghost use Rattle.laws.specs.Lists.{Laid};
 ghost use Rattle.touches.specs.Limits.{most_touches};
 ghost use Rattle.rules.specs.Faces.{border};
 ghost use Rattle.rules.specs.Building.{cone};
@@ -14,19 +14,6 @@ ghost use Rattle.border.specs.Marks.{Fresh, FacesOver};
 use crate::cone::add_marked;
 pub use crate::marks::Marks;
 use touches::TouchNo;
-
-// Face f at the free place at, if it is wanted: the next free place.
-#[tactic(auto, using(laws::proofs::Tables::laid_one, laws::proofs::Tables::laid_none))]
-pub(crate) fn put(table: &mut [[u16; 3]], at: usize, f: [u16; 3], wanted: bool) -> usize
-    requires { at + length (only_if wanted f) ≤ length table.old }
-    ensures { Laid at (only_if wanted f) table.old result table.new }
-{
-    if wanted {
-        table[at] = f;
-        return at + 1;
-    }
-    at
-}
 
 // The cone from k over the border of the faces seen, from the free place at on: the next free place. No mark is of k or a later touch.
 pub fn add_cone(
