@@ -8,7 +8,7 @@ ghost use Rattle.rules.specs.Demands.{CornersIn};
 ghost use Rattle.border.specs.Marks.{FacesOver, Marked, unmarked};
 ghost use Rattle.border.specs.Cone.{cone_side, cone_on};
 
-use crate::marks::Marks;
+use crate::marks::{Marker, Marks};
 use touches::TouchNo;
 
 // The new face on side a→b of a visible face, if the side is of the border.
@@ -19,25 +19,25 @@ fn add_side(
     marks: &Marks,
     a: TouchNo,
     b: TouchNo,
-    k: TouchNo,
+    k: Marker,
 ) -> usize
-    requires { (a.0 < marks.now.width) × (b.0 < marks.now.width) × (k.0 < most_touches)
-        × (at + length (cone_side (unmarked marks.now.table.now marks.now.width k.0) k.0 (side a.0 b.0)) ≤ length table.old) }
-    ensures { Laid at (cone_side (unmarked marks.now.table.now marks.now.width k.0) k.0 (side a.0 b.0)) table.old result table.new }
+    requires { (a.0 < marks.now.width) × (b.0 < marks.now.width)
+        × (at + length (cone_side (unmarked marks.now.table.now marks.now.width k.touch.0) k.touch.0 (side a.0 b.0)) ≤ length table.old) }
+    ensures { Laid at (cone_side (unmarked marks.now.table.now marks.now.width k.touch.0) k.touch.0 (side a.0 b.0)) table.old result table.new }
 {
     if marks.is_marked(b, a, k) {
         return at;
     }
-    table[at] = [a.0, b.0, k.0];
+    table[at] = [a.0, b.0, k.touch.0];
     at + 1
 }
 
 // The new faces on the sides of one visible face.
 #[tactic(auto, using(crate::proofs::ConeLaws::face_length))]
-fn add_sides(table: &mut [[u16; 3]], at: usize, marks: &Marks, f: [u16; 3], k: TouchNo) -> usize
-    requires { CornersIn (λ t. t < marks.now.width) f × (k.0 < most_touches)
-        × (at + length (cone_on (unmarked marks.now.table.now marks.now.width k.0) k.0 (f ∷ [])) ≤ length table.old) }
-    ensures { Laid at (cone_on (unmarked marks.now.table.now marks.now.width k.0) k.0 (f ∷ [])) table.old result table.new }
+fn add_sides(table: &mut [[u16; 3]], at: usize, marks: &Marks, f: [u16; 3], k: Marker) -> usize
+    requires { CornersIn (λ t. t < marks.now.width) f
+        × (at + length (cone_on (unmarked marks.now.table.now marks.now.width k.touch.0) k.touch.0 (f ∷ [])) ≤ length table.old) }
+    ensures { Laid at (cone_on (unmarked marks.now.table.now marks.now.width k.touch.0) k.touch.0 (f ∷ [])) table.old result table.new }
 {
     let [a, b, c] = f;
     let one = add_side(table, at, marks, TouchNo(a), TouchNo(b), k);
@@ -51,11 +51,11 @@ pub(crate) fn add_marked(
     start: usize,
     seen: &[[u16; 3]],
     marks: &Marks,
-    k: TouchNo,
+    k: Marker,
 ) -> usize
-    requires { Marked marks.now.width k.0 seen.now marks.now.table.now × FacesOver marks.now.width seen.now
-        × (k.0 < most_touches) × (start + length (map (cone k.0) (border seen.now)) ≤ length table.old) }
-    ensures { Laid start (map (cone k.0) (border seen.now)) table.old result table.new }
+    requires { Marked marks.now.width k.touch.0 seen.now marks.now.table.now × FacesOver marks.now.width seen.now
+        × (start + length (map (cone k.touch.0) (border seen.now)) ≤ length table.old) }
+    ensures { Laid start (map (cone k.touch.0) (border seen.now)) table.old result table.new }
 {
     let mut at = start;
     for &f in seen {

@@ -12,6 +12,7 @@ ghost use Rattle.rules.specs.Building.{cone};
 ghost use Rattle.border.specs.Marks.{Fresh, FacesOver};
 
 use crate::cone::add_marked;
+use crate::marks::Marker;
 pub use crate::marks::Marks;
 use touches::TouchNo;
 
@@ -30,6 +31,7 @@ pub fn add_cone(
     ensures same_table { marks.new.table.ghost_name ≡ marks.old.table.ghost_name }
     ensures same_width { marks.new.width ≡ marks.old.width }
 {
+    let k = Marker { touch: k };
     marks.mark_all(seen, k);
     add_marked(table, at, seen, marks, k)
 }

@@ -15,12 +15,20 @@ pub struct Marks<'a> {
     ghost fits: { MarkTable width table.now },
 }
 
-// The mark that touch k leaves: above the 1 that the table starts with.
-fn stamp(k: TouchNo) -> u16
-    requires { k.0 < most_touches }
-    ensures { result ≡ stamp k.0 }
-{
-    k.0 + 2
+// A touch that leaves marks: its number is low enough for them.
+#[derive(Clone, Copy)]
+pub(crate) struct Marker {
+    pub(crate) touch: TouchNo,
+    ghost few: { touch.0 < most_touches },
+}
+
+impl Marker {
+    // The mark that it leaves: above the 1 that the table starts with.
+    fn stamp(self) -> u16
+        ensures { result ≡ stamp self.touch.0 }
+    {
+        self.touch.0 + 2
+    }
 }
 
 impl<'a> Marks<'a> {
@@ -43,20 +51,20 @@ impl<'a> Marks<'a> {
     }
 
     // Side a→b gets the mark of touch k.
-    fn mark_side(&mut self, a: TouchNo, b: TouchNo, k: TouchNo)
-        requires { (a.0 < self.old.width) × (b.0 < self.old.width) × (k.0 < most_touches) }
-        ensures marks { self.new.table.now ≡ mark_side self.old.width k.0 (side a.0 b.0) self.old.table.now }
+    fn mark_side(&mut self, a: TouchNo, b: TouchNo, k: Marker)
+        requires { (a.0 < self.old.width) × (b.0 < self.old.width) }
+        ensures marks { self.new.table.now ≡ mark_side self.old.width k.touch.0 (side a.0 b.0) self.old.table.now }
         ensures same_table { self.new.table.ghost_name ≡ self.old.table.ghost_name }
         ensures same_width { self.new.width ≡ self.old.width }
     {
         let at = self.place(a, b);
-        self.table[at] = stamp(k);
+        self.table[at] = k.stamp();
     }
 
     // Each side of face f gets it.
-    fn mark_sides(&mut self, f: [u16; 3], k: TouchNo)
-        requires { CornersIn (λ t. t < self.old.width) f × (k.0 < most_touches) }
-        ensures marks { self.new.table.now ≡ mark_sides self.old.width k.0 (sides_of f) self.old.table.now }
+    fn mark_sides(&mut self, f: [u16; 3], k: Marker)
+        requires { CornersIn (λ t. t < self.old.width) f }
+        ensures marks { self.new.table.now ≡ mark_sides self.old.width k.touch.0 (sides_of f) self.old.table.now }
         ensures same_table { self.new.table.ghost_name ≡ self.old.table.ghost_name }
         ensures same_width { self.new.width ≡ self.old.width }
     {
@@ -67,10 +75,10 @@ impl<'a> Marks<'a> {
     }
 
     // The sides of the visible faces get the mark of touch k, which no side has yet: so the table need not be cleared for it.
-    pub(crate) fn mark_all(&mut self, seen: &[[u16; 3]], k: TouchNo)
-        requires { Fresh k.0 self.old.table.now × (k.0 < most_touches) × FacesOver self.old.width seen.now }
-        ensures marked { Marked self.old.width k.0 seen.now self.new.table.now }
-        ensures fresh { Fresh (k.0 + 1) self.new.table.now }
+    pub(crate) fn mark_all(&mut self, seen: &[[u16; 3]], k: Marker)
+        requires { Fresh k.touch.0 self.old.table.now × FacesOver self.old.width seen.now }
+        ensures marked { Marked self.old.width k.touch.0 seen.now self.new.table.now }
+        ensures fresh { Fresh (k.touch.0 + 1) self.new.table.now }
         ensures same_table { self.new.table.ghost_name ≡ self.old.table.ghost_name }
         ensures same_width { self.new.width ≡ self.old.width }
     {
@@ -80,10 +88,10 @@ impl<'a> Marks<'a> {
     }
 
     // Has side a→b the mark of touch k?
-    pub(crate) fn is_marked(&self, a: TouchNo, b: TouchNo, k: TouchNo) -> bool
-        requires { (a.0 < self.now.width) × (b.0 < self.now.width) × (k.0 < most_touches) }
-        ensures { result ≡ eqb (get_or self.now.table.now (mark_place self.now.width a.0 b.0) 0) (stamp k.0) }
+    pub(crate) fn is_marked(&self, a: TouchNo, b: TouchNo, k: Marker) -> bool
+        requires { (a.0 < self.now.width) × (b.0 < self.now.width) }
+        ensures { result ≡ eqb (get_or self.now.table.now (mark_place self.now.width a.0 b.0) 0) (stamp k.touch.0) }
     {
-        self.table[self.place(a, b)] == stamp(k)
+        self.table[self.place(a, b)] == k.stamp()
     }
 }

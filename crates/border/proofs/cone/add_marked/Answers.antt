@@ -13,8 +13,7 @@ add_sides-at-requires c =
     let l = c.loop-f in
     let h = c.requires in (
       h.1 _ (get_or_in c.args.seen.now l.f-index [] (search rules)),
-      h.2,
-      omega (arith, h.3, l.auto.table, l.invariant.next, cone_room h.0 h.1 l.f-index (search rules)),
+      omega (arith, h.2, l.auto.table, l.invariant.next, cone_room h.0 h.1 l.f-index (search rules)),
     )
 
 pub loop-f-preserved : goal.loop-f-preserved
@@ -22,7 +21,7 @@ loop-f-preserved c =
     let a = c.args in
     let m = a.marks.now in
     let l = c.loop-f in
-    rw (cone_more (unmarked m.table.now m.width a.k.0) a.k.0 a.seen.now l.f-index (search rules)) (laid_then l.invariant (omega (arith, c.requires.3)) c.add_sides-at.ensures)
+    rw (cone_more (unmarked m.table.now m.width a.k.touch.0) a.k.touch.0 a.seen.now l.f-index (search rules)) (laid_then l.invariant (omega (arith, c.requires.2)) c.add_sides-at.ensures)
 
 pub returns : goal.returns
 returns c = rw (← cone_all c.requires.0 c.requires.1 c.loop-f.f-index (search rules)) c.loop-f.invariant

@@ -6,4 +6,4 @@ use Rattle.border.specs.Marks.{unmarked}
 use Rattle.border.proofs.cone.add_marked.Given as goal
 
 abbrev pub invariant-loop-f : goal.invariant-loop-f
-invariant-loop-f l = Laid l.start (cone_on (unmarked l.marks.table.now l.marks.width l.k.0) l.k.0 (take l.f-index l.seen)) l.initial.table l.at l.table
+invariant-loop-f l = Laid l.start (cone_on (unmarked l.marks.table.now l.marks.width l.k.touch.0) l.k.touch.0 (take l.f-index l.seen)) l.initial.table l.at l.table

@@ -8,4 +8,4 @@ use Rattle.border.proofs.marks.Marks.mark_all.Given as goal
 abbrev pub invariant-loop-f : goal.invariant-loop-f
 invariant-loop-f l =
     (l.self.width ≡ l.initial.self.width) × (l.self.table.ghost_name ≡ l.initial.self.table.ghost_name)
-    × (mark_sides l.initial.self.width l.k.0 (sides l.seen) l.initial.self.table.now ≡ mark_sides l.initial.self.width l.k.0 (sides (drop l.f-index l.seen)) l.self.table.now)
+    × (mark_sides l.initial.self.width l.k.touch.0 (sides l.seen) l.initial.self.table.now ≡ mark_sides l.initial.self.width l.k.touch.0 (sides (drop l.f-index l.seen)) l.self.table.now)
