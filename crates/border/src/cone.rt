@@ -2,33 +2,25 @@
 ghost use Rattle.std.specs.Prelude.{[], ◌∷◌, map, ◌+◌, ◌<◌, ◌≤◌, length};
 ghost use Rattle.laws.specs.Lists.{Laid};
 ghost use Rattle.touches.specs.Limits.{most_touches};
-ghost use Rattle.rules.specs.Faces.{side, border};
+ghost use Rattle.rules.specs.Faces.{border};
 ghost use Rattle.rules.specs.Building.{cone};
 ghost use Rattle.rules.specs.Demands.{CornersIn};
 ghost use Rattle.border.specs.Marks.{FacesOver, Marked, unmarked};
 ghost use Rattle.border.specs.Cone.{cone_side, cone_on};
 
-use crate::marks::{Marker, Marks};
-use touches::TouchNo;
+use crate::marks::{Marker, Marks, Side, sides_of};
 
-// The new face on side a→b of a visible face, if the side is of the border.
+// The new face on side s of a visible face, if the side is of the border.
 #[tactic(auto, using(laws::proofs::Tables::laid_one, laws::proofs::Tables::laid_none))]
-fn add_side(
-    table: &mut [[u16; 3]],
-    at: usize,
-    marks: &Marks,
-    a: TouchNo,
-    b: TouchNo,
-    k: Marker,
-) -> usize
-    requires { (a.0 < marks.now.width) × (b.0 < marks.now.width)
-        × (at + length (cone_side (unmarked marks.now.table.now marks.now.width k.touch.0) k.touch.0 (side a.0 b.0)) ≤ length table.old) }
-    ensures { Laid at (cone_side (unmarked marks.now.table.now marks.now.width k.touch.0) k.touch.0 (side a.0 b.0)) table.old result table.new }
+fn add_side(table: &mut [[u16; 3]], at: usize, marks: &Marks, s: Side, k: Marker) -> usize
+    requires { (s.from < marks.now.width) × (s.to < marks.now.width)
+        × (at + length (cone_side (unmarked marks.now.table.now marks.now.width k.touch.0) k.touch.0 s) ≤ length table.old) }
+    ensures { Laid at (cone_side (unmarked marks.now.table.now marks.now.width k.touch.0) k.touch.0 s) table.old result table.new }
 {
-    if marks.is_marked(b, a, k) {
+    if marks.is_marked(s.reversed(), k) {
         return at;
     }
-    table[at] = [a.0, b.0, k.touch.0];
+    table[at] = [s.from, s.to, k.touch.0];
     at + 1
 }
 
@@ -39,10 +31,10 @@ fn add_sides(table: &mut [[u16; 3]], at: usize, marks: &Marks, f: [u16; 3], k: M
         × (at + length (cone_on (unmarked marks.now.table.now marks.now.width k.touch.0) k.touch.0 (f ∷ [])) ≤ length table.old) }
     ensures { Laid at (cone_on (unmarked marks.now.table.now marks.now.width k.touch.0) k.touch.0 (f ∷ [])) table.old result table.new }
 {
-    let [a, b, c] = f;
-    let one = add_side(table, at, marks, TouchNo(a), TouchNo(b), k);
-    let two = add_side(table, one, marks, TouchNo(b), TouchNo(c), k);
-    add_side(table, two, marks, TouchNo(c), TouchNo(a), k)
+    let [ab, bc, ca] = sides_of(f);
+    let one = add_side(table, at, marks, ab, k);
+    let two = add_side(table, one, marks, bc, k);
+    add_side(table, two, marks, ca, k)
 }
 
 // The cone from k over the border of the visible faces, whose sides are marked.

@@ -1,10 +1,11 @@
 // The marks by which the border of the visible faces is found: a table of numbers, one for each directed side.
 ghost use Rattle.std.specs.Prelude.{◌≡◌, ◌+◌, ◌*◌, ◌<◌, ◌≤◌, eqb, get_or, length};
 ghost use Rattle.touches.specs.Limits.{most_touches};
-ghost use Rattle.rules.specs.Faces.{side, sides_of};
+ghost use Rattle.rules.specs.Faces.{reversed, sides_of};
 ghost use Rattle.rules.specs.Demands.{CornersIn};
 ghost use Rattle.border.specs.Marks.{mark_place, stamp, MarkTable, Fresh, FacesOver, Marked, mark_side, mark_sides};
 
+use std::marker::Model;
 use touches::TouchNo;
 
 // A table of marks for touches below width.
@@ -31,6 +32,46 @@ impl Marker {
     }
 }
 
+// A side of a face, from one touch to another.
+#[derive(Clone, Copy)]
+pub(crate) struct Side {
+    pub(crate) from: u16,
+    pub(crate) to: u16,
+}
+
+impl Model for Side {
+    ghost use Rattle.rules.specs.Faces.{Side, side};
+
+    ghost Value = { Side };
+
+    ghost view = { λ s. side s.from s.to };
+
+    ghost inverse = { λ s. record { from = s.from; to = s.to } };
+}
+
+impl Side {
+    pub(crate) fn reversed(self) -> Side
+        ensures { result ≡ reversed self }
+    {
+        Side {
+            from: self.to,
+            to: self.from,
+        }
+    }
+}
+
+// The three sides of face f.
+pub(crate) fn sides_of(f: [u16; 3]) -> [Side; 3]
+    ensures { result ≡ sides_of f }
+{
+    let [a, b, c] = f;
+    [
+        Side { from: a, to: b },
+        Side { from: b, to: c },
+        Side { from: c, to: a },
+    ]
+}
+
 impl<'a> Marks<'a> {
     // Marks in a table that is lent.
     pub fn new(table: &'a mut [u16], width: usize) -> Marks<'a>
@@ -42,22 +83,22 @@ impl<'a> Marks<'a> {
         Marks { table, width }
     }
 
-    // Where the mark of side a→b stands.
-    fn place(&self, a: TouchNo, b: TouchNo) -> usize
-        requires { (a.0 < self.now.width) × (b.0 < self.now.width) }
-        ensures { (result ≡ mark_place self.now.width a.0 b.0) × (result < length self.now.table.now) }
+    // Where the mark of side s stands.
+    fn place(&self, s: Side) -> usize
+        requires { (s.from < self.now.width) × (s.to < self.now.width) }
+        ensures { (result ≡ mark_place self.now.width s.from s.to) × (result < length self.now.table.now) }
     {
-        a.0 as usize * self.width + b.0 as usize
+        s.from as usize * self.width + s.to as usize
     }
 
-    // Side a→b gets the mark of touch k.
-    fn mark_side(&mut self, a: TouchNo, b: TouchNo, k: Marker)
-        requires { (a.0 < self.old.width) × (b.0 < self.old.width) }
-        ensures marks { self.new.table.now ≡ mark_side self.old.width k.touch.0 (side a.0 b.0) self.old.table.now }
+    // Side s gets the mark of touch k.
+    fn mark_side(&mut self, s: Side, k: Marker)
+        requires { (s.from < self.old.width) × (s.to < self.old.width) }
+        ensures marks { self.new.table.now ≡ mark_side self.old.width k.touch.0 s self.old.table.now }
         ensures same_table { self.new.table.ghost_name ≡ self.old.table.ghost_name }
         ensures same_width { self.new.width ≡ self.old.width }
     {
-        let at = self.place(a, b);
+        let at = self.place(s);
         self.table[at] = k.stamp();
     }
 
@@ -68,10 +109,10 @@ impl<'a> Marks<'a> {
         ensures same_table { self.new.table.ghost_name ≡ self.old.table.ghost_name }
         ensures same_width { self.new.width ≡ self.old.width }
     {
-        let [a, b, c] = f;
-        self.mark_side(TouchNo(a), TouchNo(b), k);
-        self.mark_side(TouchNo(b), TouchNo(c), k);
-        self.mark_side(TouchNo(c), TouchNo(a), k);
+        let [ab, bc, ca] = sides_of(f);
+        self.mark_side(ab, k);
+        self.mark_side(bc, k);
+        self.mark_side(ca, k);
     }
 
     // The sides of the visible faces get the mark of touch k, which no side has yet: so the table need not be cleared for it.
@@ -87,11 +128,11 @@ impl<'a> Marks<'a> {
         }
     }
 
-    // Has side a→b the mark of touch k?
-    pub(crate) fn is_marked(&self, a: TouchNo, b: TouchNo, k: Marker) -> bool
-        requires { (a.0 < self.now.width) × (b.0 < self.now.width) }
-        ensures { result ≡ eqb (get_or self.now.table.now (mark_place self.now.width a.0 b.0) 0) (stamp k.touch.0) }
+    // Has side s the mark of touch k?
+    pub(crate) fn is_marked(&self, s: Side, k: Marker) -> bool
+        requires { (s.from < self.now.width) × (s.to < self.now.width) }
+        ensures { result ≡ eqb (get_or self.now.table.now (mark_place self.now.width s.from s.to) 0) (stamp k.touch.0) }
     {
-        self.table[self.place(a, b)] == k.stamp()
+        self.table[self.place(s)] == k.stamp()
     }
 }
