@@ -3,6 +3,7 @@
 
 mod cone;
 mod marks;
+mod side;
 
 ghost use Rattle.std.specs.Prelude.{◌≡◌, map, ◌+◌, ◌<◌, ◌≤◌, length};
 ghost use Rattle.laws.specs.Lists.{Laid};

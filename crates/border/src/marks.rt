@@ -1,11 +1,9 @@
 // The marks by which the border of the visible faces is found: a table of numbers, one for each directed side.
 ghost use Rattle.std.specs.Prelude.{◌≡◌, ◌+◌, ◌*◌, ◌<◌, ◌≤◌, eqb, get_or, length};
 ghost use Rattle.touches.specs.Limits.{most_touches};
-ghost use Rattle.rules.specs.Faces.{reversed, sides_of};
-ghost use Rattle.rules.specs.Demands.{CornersIn};
-ghost use Rattle.border.specs.Marks.{mark_place, stamp, MarkTable, Fresh, FacesOver, Marked, mark_side, mark_sides};
+ghost use Rattle.border.specs.Marks.{mark_place, stamp, MarkTable, Fresh, FacesOver, Marked, mark_side};
 
-use std::marker::Model;
+use crate::side::{Side, sides_of};
 use touches::TouchNo;
 
 // A table of marks for touches below width.
@@ -30,46 +28,6 @@ impl Marker {
     {
         self.touch.0 + 2
     }
-}
-
-// A side of a face, from one touch to another.
-#[derive(Clone, Copy)]
-pub(crate) struct Side {
-    pub(crate) from: u16,
-    pub(crate) to: u16,
-}
-
-impl Model for Side {
-    ghost use Rattle.rules.specs.Faces.{Side, side};
-
-    ghost Value = { Side };
-
-    ghost view = { λ s. side s.from s.to };
-
-    ghost inverse = { λ s. record { from = s.from; to = s.to } };
-}
-
-impl Side {
-    pub(crate) fn reversed(self) -> Side
-        ensures { result ≡ reversed self }
-    {
-        Side {
-            from: self.to,
-            to: self.from,
-        }
-    }
-}
-
-// The three sides of face f.
-pub(crate) fn sides_of(f: [u16; 3]) -> [Side; 3]
-    ensures { result ≡ sides_of f }
-{
-    let [a, b, c] = f;
-    [
-        Side { from: a, to: b },
-        Side { from: b, to: c },
-        Side { from: c, to: a },
-    ]
 }
 
 impl<'a> Marks<'a> {
@@ -102,19 +60,6 @@ impl<'a> Marks<'a> {
         self.table[at] = k.stamp();
     }
 
-    // Each side of face f gets it.
-    fn mark_sides(&mut self, f: [u16; 3], k: Marker)
-        requires { CornersIn (λ t. t < self.old.width) f }
-        ensures marks { self.new.table.now ≡ mark_sides self.old.width k.touch.0 (sides_of f) self.old.table.now }
-        ensures same_table { self.new.table.ghost_name ≡ self.old.table.ghost_name }
-        ensures same_width { self.new.width ≡ self.old.width }
-    {
-        let [ab, bc, ca] = sides_of(f);
-        self.mark_side(ab, k);
-        self.mark_side(bc, k);
-        self.mark_side(ca, k);
-    }
-
     // The sides of the visible faces get the mark of touch k, which no side has yet: so the table need not be cleared for it.
     pub(crate) fn mark_all(&mut self, seen: &[[u16; 3]], k: Marker)
         requires { Fresh k.touch.0 self.old.table.now × FacesOver self.old.width seen.now }
@@ -124,7 +69,9 @@ impl<'a> Marks<'a> {
         ensures same_width { self.new.width ≡ self.old.width }
     {
         for &f in seen {
-            self.mark_sides(f, k);
+            for s in sides_of(f) {
+                self.mark_side(s, k);
+            }
         }
     }
 
