@@ -1,12 +1,13 @@
 // The marks by which the border of the visible faces is found: a table of numbers, one for each directed side.
 ghost use Rattle.std.specs.Prelude.{◌≡◌, ◌+◌, ◌*◌, ◌<◌, ◌≤◌, eqb, get_or, length};
 ghost use Rattle.touches.specs.Limits.{most_touches};
-ghost use Rattle.border.specs.Marks.{mark_place, stamp, MarkTable, Fresh, FacesOver, Marked, mark_side};
+ghost use Rattle.border.specs.Marks.{mark_place, stamp, MarkTable, Fresh, FacesOver, Marked};
 
 use crate::side::{Side, sides_of};
 use touches::TouchNo;
 
-// A table of marks for touches below width.
+// A table of marks for touches below width. No model, and so same_table and same_width below: a caller's table is lent through it, and
+// a model would hide which one, as `new` and `add_cone` promise it.
 #[derive(Drop)]
 pub struct Marks<'a> {
     table: &'a mut [u16],
@@ -46,18 +47,7 @@ impl<'a> Marks<'a> {
         requires { (s.from < self.now.width) × (s.to < self.now.width) }
         ensures { (result ≡ mark_place self.now.width s.from s.to) × (result < length self.now.table.now) }
     {
-        s.from as usize * self.width + s.to as usize
-    }
-
-    // Side s gets the mark of touch k.
-    fn mark_side(&mut self, s: Side, k: Marker)
-        requires { (s.from < self.old.width) × (s.to < self.old.width) }
-        ensures marks { self.new.table.now ≡ mark_side self.old.width k.touch.0 s self.old.table.now }
-        ensures same_table { self.new.table.ghost_name ≡ self.old.table.ghost_name }
-        ensures same_width { self.new.width ≡ self.old.width }
-    {
-        let at = self.place(s);
-        self.table[at] = k.stamp();
+        usize::from(s.from) * self.width + usize::from(s.to)
     }
 
     // The sides of the visible faces get the mark of touch k, which no side has yet: so the table need not be cleared for it.
@@ -70,7 +60,8 @@ impl<'a> Marks<'a> {
     {
         for &f in seen {
             for s in sides_of(f) {
-                self.mark_side(s, k);
+                let at = self.place(s);
+                self.table[at] = k.stamp();
             }
         }
     }

@@ -2,8 +2,8 @@ use Rattle.std.proofs.Common.{◌∙◌, rules}
 use Rattle.border.proofs.MarkLaws.{side_over, face_end, all_marked, all_fresh}
 use Rattle.border.proofs.marks.Marks.mark_all.Goals as goal
 
-pub mark_side-requires : goal.mark_side-requires
-mark_side-requires c =
+pub place-at-requires : goal.place-at-requires
+place-at-requires c =
     rw (c.loop-s.invariant.0, c.loop-f.invariant.0) (side_over c.requires.1 c.loop-f.f-index (search rules) c.sides_of-s-items.ensures c.loop-s.s-index c.s-item.result (search rules))
 
 pub returns : goal.returns
