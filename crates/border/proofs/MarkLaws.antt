@@ -4,17 +4,16 @@ use mathlib.Core.Logic.{◌⊎◌, inl, inr}
 use mathlib.Core.Bool.{Bool, not, ◌&&◌, ◌||◌, or_assoc, or_comm, or-false}
 use mathlib.Core.List.{List, [], ◌∷◌}
 use Prim.Native.Nat.{ℕ, zero, suc, ◌+◌, ◌*◌, ◌/◌, ◌%◌, ◌<◌, ◌≤◌}
-use native.Mathlib.Numerals.{add-one}
 use native.Mathlib.Omega.{arith}
 use borrow.Author.Tests.{ne_eqb, eqb-false}
 use lib.Arith.{digits_lt, digits_div, digits_mod}
 use lib.Dec.{T, eqb, eqb→eq, eqb_refl}
 use lib.Ieee.Fits.{eq→eqb}
 use lib.ListN.{length, drop, get_or, set, length-set, drop_of_length-le}
-use lib.Seq.{drop-cons, get_or-set_same, get_or-set_other}
+use lib.Seq.{get_or-set_same, get_or-set_other}
 use Rattle.laws.specs.Lists.{In, has}
 use Rattle.laws.proofs.Tests.{T-or, is_true, is_false, same_test, and_both, both_and}
-use Rattle.laws.proofs.Members.{here, there}
+use Rattle.laws.proofs.Members.{here, there, get_or_in}
 use Rattle.rules.specs.Faces.{Face, Side, side, same_side, sides_of, sides}
 use Rattle.rules.proofs.SideLaws.{in_sides}
 use Rattle.rules.proofs.FaceLaws.{side_corners}
@@ -60,11 +59,7 @@ module _ (w k : ℕ) where
       ∙ ap (λ (x : Bool). has same_side (side a b) l || x) (store_test marks i (mark_place w a b) (stamp k) (omega (arith, digits_lt e.0 e.1)) ∙ ap (λ (x : Bool). x || z) (place_test w a b s.from s.to y e.1))
       ∙ sym (or_assoc (has same_side (side a b) l) (same_side (side a b) s) z) ∙ ap (λ (x : Bool). x || z) (or_comm (has same_side (side a b) l) (same_side (side a b) s))
 
-  -- ---- the faces, a face a turn
-  pub face_turn : (v : List Face) (i : ℕ) (marks : List ℕ) → i < length v
-      → mark_sides w k (sides (drop i v)) marks ≡ mark_sides w k (sides (drop (i + 1) v)) (mark_sides w k (sides_of (get_or v i [])) marks)
-  face_turn v i marks h = rw (add-one, drop-cons v i [] h)
-
+  -- ---- the faces, once none is left
   pub face_end : (v : List Face) (i : ℕ) (marks : List ℕ) → length v ≤ i → mark_sides w k (sides (drop i v)) marks ≡ marks
   face_end v i marks h = rw (drop_of_length-le v h)
 
@@ -80,6 +75,11 @@ module _ {w k : ℕ} {v : List Face} {marks after : List ℕ} (table : MarkTable
 
   pub all_fresh : Fresh (k + 1) after
   all_fresh = record { old = λ j. rw (← e) (omega (arith, sides_most w k (sides v) marks j (omega (arith, fresh.old j)))) }
+
+-- side j of face i is over touches below w
+pub side_over : {w : ℕ} {v : List Face} {l : List Side} → FacesOver w v → (i : ℕ) → i < length v → l ≡ sides_of (get_or v i [])
+    → (j : ℕ) (d : Side) → j < length l → ((get_or l j d).from < w) × ((get_or l j d).to < w)
+side_over {w} {v} {l} c i h e j d g = side_corners (c (get_or v i []) (get_or_in v i [] h)) (get_or l j d) (rw (← e) (get_or_in l j d g))
 
 -- touches that leave no mark
 pub fresh_later : {k j : ℕ} {marks : List ℕ} → Fresh k marks → k ≤ j → Fresh j marks

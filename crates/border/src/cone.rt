@@ -1,45 +1,26 @@
 // The cone over the sides of the visible faces that have no mark on their reverse.
-ghost use Rattle.std.specs.Prelude.{[], ◌∷◌, map, ◌+◌, ◌<◌, ◌≤◌, length};
+ghost use Rattle.std.specs.Prelude.{map, ◌+◌, ◌<◌, ◌≤◌, length};
 ghost use Rattle.laws.specs.Lists.{Laid};
-ghost use Rattle.touches.specs.Limits.{most_touches};
-ghost use Rattle.rules.specs.Faces.{side, border};
+ghost use Rattle.rules.specs.Faces.{border};
 ghost use Rattle.rules.specs.Building.{cone};
-ghost use Rattle.rules.specs.Demands.{CornersIn};
 ghost use Rattle.border.specs.Marks.{FacesOver, Marked, unmarked};
-ghost use Rattle.border.specs.Cone.{cone_side, cone_on};
+ghost use Rattle.border.specs.Cone.{cone_side};
 
-use crate::marks::Marks;
-use crate::put;
-use touches::TouchNo;
+use crate::marks::{Marker, Marks};
+use crate::side::{Side, sides_of};
 
-// The new face on side a→b of a visible face, if the side is of the border.
-fn add_side(
-    table: &mut [[u16; 3]],
-    at: usize,
-    marks: &Marks,
-    a: TouchNo,
-    b: TouchNo,
-    k: TouchNo,
-) -> usize
-    requires { (a.0 < marks.now.width) × (b.0 < marks.now.width) × (k.0 < most_touches)
-        × (at + length (cone_side (unmarked marks.now.table.now marks.now.width k.0) k.0 (side a.0 b.0)) ≤ length table.old) }
-    ensures { Laid at (cone_side (unmarked marks.now.table.now marks.now.width k.0) k.0 (side a.0 b.0)) table.old result table.new }
+// The new face on side s of a visible face, if the side is of the border.
+#[tactic(auto, using(laws::proofs::Tables::laid_one, laws::proofs::Tables::laid_none))]
+fn add_side(table: &mut [[u16; 3]], at: usize, marks: &Marks, s: Side, k: Marker) -> usize
+    requires { (s.from < marks.now.width) × (s.to < marks.now.width)
+        × (at + length (cone_side (unmarked marks.now.table.now marks.now.width k.touch.0) k.touch.0 s) ≤ length table.old) }
+    ensures { Laid at (cone_side (unmarked marks.now.table.now marks.now.width k.touch.0) k.touch.0 s) table.old result table.new }
 {
-    let inner = marks.is_marked(b, a, k);
-    put(table, at, [a.0, b.0, k.0], !inner)
-}
-
-// The new faces on the sides of one visible face.
-#[tactic(auto, using(crate::proofs::ConeLaws::face_length))]
-fn add_sides(table: &mut [[u16; 3]], at: usize, marks: &Marks, f: [u16; 3], k: TouchNo) -> usize
-    requires { CornersIn (λ t. t < marks.now.width) f × (k.0 < most_touches)
-        × (at + length (cone_on (unmarked marks.now.table.now marks.now.width k.0) k.0 (f ∷ [])) ≤ length table.old) }
-    ensures { Laid at (cone_on (unmarked marks.now.table.now marks.now.width k.0) k.0 (f ∷ [])) table.old result table.new }
-{
-    let [a, b, c] = f;
-    let one = add_side(table, at, marks, TouchNo(a), TouchNo(b), k);
-    let two = add_side(table, one, marks, TouchNo(b), TouchNo(c), k);
-    add_side(table, two, marks, TouchNo(c), TouchNo(a), k)
+    if marks.is_marked(s.reversed(), k) {
+        return at;
+    }
+    table[at] = [s.from, s.to, k.touch.0];
+    at + 1
 }
 
 // The cone from k over the border of the visible faces, whose sides are marked.
@@ -48,15 +29,17 @@ pub(crate) fn add_marked(
     start: usize,
     seen: &[[u16; 3]],
     marks: &Marks,
-    k: TouchNo,
+    k: Marker,
 ) -> usize
-    requires { Marked marks.now.width k.0 seen.now marks.now.table.now × FacesOver marks.now.width seen.now
-        × (k.0 < most_touches) × (start + length (map (cone k.0) (border seen.now)) ≤ length table.old) }
-    ensures { Laid start (map (cone k.0) (border seen.now)) table.old result table.new }
+    requires { Marked marks.now.width k.touch.0 seen.now marks.now.table.now × FacesOver marks.now.width seen.now
+        × (start + length (map (cone k.touch.0) (border seen.now)) ≤ length table.old) }
+    ensures { Laid start (map (cone k.touch.0) (border seen.now)) table.old result table.new }
 {
     let mut at = start;
     for &f in seen {
-        at = add_sides(table, at, marks, f, k);
+        for s in sides_of(f) {
+            at = add_side(table, at, marks, s, k);
+        }
     }
     at
 }

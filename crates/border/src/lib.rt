@@ -3,30 +3,19 @@
 
 mod cone;
 mod marks;
+mod side;
 
 ghost use Rattle.std.specs.Prelude.{◌≡◌, map, ◌+◌, ◌<◌, ◌≤◌, length};
-ghost use Rattle.laws.specs.Lists.{only_if, Laid};
+ghost use Rattle.laws.specs.Lists.{Laid};
 ghost use Rattle.touches.specs.Limits.{most_touches};
 ghost use Rattle.rules.specs.Faces.{border};
 ghost use Rattle.rules.specs.Building.{cone};
 ghost use Rattle.border.specs.Marks.{Fresh, FacesOver};
 
 use crate::cone::add_marked;
+use crate::marks::Marker;
 pub use crate::marks::Marks;
 use touches::TouchNo;
-
-// Face f at the free place at, if it is wanted: the next free place.
-#[tactic(auto, using(laws::proofs::Tables::laid_one, laws::proofs::Tables::laid_none))]
-pub(crate) fn put(table: &mut [[u16; 3]], at: usize, f: [u16; 3], wanted: bool) -> usize
-    requires { at + length (only_if wanted f) ≤ length table.old }
-    ensures { Laid at (only_if wanted f) table.old result table.new }
-{
-    if wanted {
-        table[at] = f;
-        return at + 1;
-    }
-    at
-}
 
 // The cone from k over the border of the faces seen, from the free place at on: the next free place. No mark is of k or a later touch.
 pub fn add_cone(
@@ -43,6 +32,7 @@ pub fn add_cone(
     ensures same_table { marks.new.table.ghost_name ≡ marks.old.table.ghost_name }
     ensures same_width { marks.new.width ≡ marks.old.width }
 {
+    let k = Marker { touch: k };
     marks.mark_all(seen, k);
     add_marked(table, at, seen, marks, k)
 }
