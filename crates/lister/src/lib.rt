@@ -12,6 +12,7 @@ mod input;
 mod lines;
 
 use crate::lines::Lines;
+use hull::build::{Hull, build};
 pub use input::list_input;
 use touches::{FaceNo, Refusal, TouchList, TouchNo};
 
@@ -31,14 +32,14 @@ fn refused_lines(x: Refusal) -> Lines
     lines
 }
 
-fn put_hull(lines: &mut Lines, n: u16, v: i64)
+fn put_hull(lines: &mut Lines, hull: Hull)
     requires { length lines.old + first_room ≤ listing_room }
-    ensures put { lines.new ≡ lines.old ++ hull_line n v }
+    ensures put { lines.new ≡ lines.old ++ hull_line hull.faces hull.volume }
     ensures short { length lines.new ≤ length lines.old + first_room }
 {
     lines.put_word(b"hull ");
-    lines.put_field(n, b' ');
-    lines.put_volume(v);
+    lines.put_field(hull.faces, b' ');
+    lines.put_volume(hull.volume);
 }
 
 fn put_face(lines: &mut Lines, f: [TouchNo; 3])
@@ -66,9 +67,9 @@ fn hull_lines(coords: &[i32]) -> Result<Lines, Refusal>
     ensures { MatchResult result (λ l. l ≡ hull_text coords.now) (λ x. hull_text coords.now ≡ refused_line x) }
 {
     let mut faces = [0u16; table::ENOUGH];
-    let hull = hull::build::build(coords, &mut faces)?;
+    let hull = build(coords, &mut faces)?;
     let mut lines = Lines::new();
-    put_hull(&mut lines, hull.faces, hull.volume);
+    put_hull(&mut lines, hull);
     put_faces(&mut lines, &faces, hull.faces);
     Ok(lines)
 }

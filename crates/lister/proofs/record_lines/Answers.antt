@@ -9,4 +9,4 @@ pub returns-in_err-n : goal.returns-in_err-n
 returns-in_err-n c = search (rules, refused_text (search rules) c.read.ensures refl c.in_err-n.was)
 
 pub returns : goal.returns
-returns c = rw (touches_text (search rules) c.read.ensures refl c.in_ok-n.was) c.hull_lines.ensures
+returns c = search (rules, touches_text (search rules) c.read.ensures refl c.in_ok-n.was)
