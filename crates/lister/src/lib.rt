@@ -22,6 +22,8 @@ pub const MOST_BYTES: usize = 65536;
 // Room for the longest listing: the first line, and a line a face.
 pub const ROOM: usize = 32 + TouchList::ENOUGH_FACES * 18;
 
+// Not by Refusal's Display, which writes the same words: the contract names `refused_line`, and that Display promises no text.
+// One that promised it would do so only where the `write!` does not fail, and this function cannot fail.
 fn refused_lines(x: Refusal) -> Lines
     ensures { result ≡ refused_line x }
 {
