@@ -1,3 +1,2 @@
 pub mod Listing
-pub mod Inner
 pub mod Room

@@ -1,18 +1,18 @@
 // The listing of a record: the hull or the refusal, as text.
 #![tactic(auto)]
 
-ghost use Rattle.std.specs.Prelude.{◌≡◌, [], ◌∷◌, ◌++◌, ◌+◌, ◌*◌, ◌<◌, ◌≤◌, length, take};
+ghost use Rattle.std.specs.Prelude.{◌≡◌, ◌++◌, ◌+◌, ◌*◌, ◌<◌, ◌≤◌, length, take, MatchResult};
 ghost use Rattle.touches.specs.Touches.{plain};
 ghost use Rattle.table.specs.Table.{room, faces_in};
 ghost use Rattle.text.specs.Room.{Put, Front};
 ghost use Rattle.lister.specs.Listing.{hull_line, refused_line, face_line, face_lines, hull_text, listing};
-ghost use Rattle.lister.specs.Inner.{PutOrRefused};
 ghost use Rattle.lister.specs.Room.{face_room, first_room, listing_room};
 
 mod input;
 mod lines;
 
 use crate::lines::Lines;
+use hull::build::{Hull, build};
 pub use input::list_input;
 use touches::{FaceNo, Refusal, TouchList, TouchNo};
 
@@ -22,23 +22,26 @@ pub const MOST_BYTES: usize = 65536;
 // Room for the longest listing: the first line, and a line a face.
 pub const ROOM: usize = 32 + TouchList::ENOUGH_FACES * 18;
 
-fn put_refused(lines: &mut Lines, x: Refusal)
-    requires { lines.old ≡ [] }
-    ensures { lines.new ≡ refused_line x }
+// Not by Refusal's Display, which writes the same words: the contract names `refused_line`, and that Display promises no text.
+// One that promised it would do so only where the `write!` does not fail, and this function cannot fail.
+fn refused_lines(x: Refusal) -> Lines
+    ensures { result ≡ refused_line x }
 {
+    let mut lines = Lines::new();
     lines.put_word(b"refused ");
     lines.put_field(u16::from(x.number()), b' ');
     lines.put_field(x.place().0, b'\n');
+    lines
 }
 
-fn put_hull(lines: &mut Lines, n: u16, v: i64)
-    requires { lines.old ≡ [] }
-    ensures put { lines.new ≡ hull_line n v }
-    ensures short { length lines.new ≤ first_room }
+fn put_hull(lines: &mut Lines, hull: Hull)
+    requires { length lines.old + first_room ≤ listing_room }
+    ensures put { lines.new ≡ lines.old ++ hull_line hull.faces hull.volume }
+    ensures short { length lines.new ≤ length lines.old + first_room }
 {
     lines.put_word(b"hull ");
-    lines.put_field(n, b' ');
-    lines.put_volume(v);
+    lines.put_field(hull.faces, b' ');
+    lines.put_volume(hull.volume);
 }
 
 fn put_face(lines: &mut Lines, f: [TouchNo; 3])
@@ -62,37 +65,33 @@ fn put_faces(lines: &mut Lines, faces: &[u16], n: u16)
 }
 
 // The hull of the touches, or why there is none.
-fn put_built(lines: &mut Lines, coords: &[i32]) -> Result<(), Refusal>
-    requires { lines.old ≡ [] }
-    ensures { PutOrRefused (hull_text coords.now) result lines.new }
+fn hull_lines(coords: &[i32]) -> Result<Lines, Refusal>
+    ensures { MatchResult result (λ l. l ≡ hull_text coords.now) (λ x. hull_text coords.now ≡ refused_line x) }
 {
     let mut faces = [0u16; table::ENOUGH];
-    let hull = hull::build::build(coords, &mut faces)?;
-    put_hull(lines, hull.faces, hull.volume);
-    put_faces(lines, &faces, hull.faces);
-    Ok(())
+    let hull = build(coords, &mut faces)?;
+    let mut lines = Lines::new();
+    put_hull(&mut lines, hull);
+    put_faces(&mut lines, &faces, hull.faces);
+    Ok(lines)
 }
 
 // The hull of the record's touches, or why there is none.
-fn put_read(lines: &mut Lines, bytes: &[u8]) -> Result<(), Refusal>
-    requires { lines.old ≡ [] }
-    ensures { PutOrRefused (listing bytes.now) result lines.new }
+fn record_lines(bytes: &[u8]) -> Result<Lines, Refusal>
+    ensures { MatchResult result (λ l. l ≡ listing bytes.now) (λ x. listing bytes.now ≡ refused_line x) }
 {
     if MOST_BYTES < bytes.len() {
         return Err(Refusal::RecordLengthWrong);
     }
     let mut coords = [0i32; TouchList::MOST * 3];
     let n = records::read(bytes, &mut coords)?;
-    put_built(lines, &coords[..n * 3])
+    hull_lines(&coords[..n * 3])
 }
 
-fn put_listing(lines: &mut Lines, bytes: &[u8])
-    requires { lines.old ≡ [] }
-    ensures { lines.new ≡ listing bytes.now }
+fn listing_lines(bytes: &[u8]) -> Lines
+    ensures { result ≡ listing bytes.now }
 {
-    if let Err(x) = put_read(lines, bytes) {
-        put_refused(lines, x);
-    }
+    record_lines(bytes).unwrap_or_else(refused_lines)
 }
 
 // The listing of a record into the lent text: how many bytes it is, or 0 where there is no room for it all. There always is in ROOM bytes.
@@ -101,7 +100,5 @@ pub fn list(bytes: &[u8], text: &mut [u8]) -> usize
     ensures room { length (listing bytes.now) ≤ listing_room }
     ensures front { Front result text.new }
 {
-    let mut lines = Lines::new();
-    put_listing(&mut lines, bytes);
-    text::put_bytes(text, 0, lines.bytes())
+    text::put_bytes(text, 0, listing_lines(bytes).bytes())
 }

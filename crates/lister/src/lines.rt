@@ -56,7 +56,7 @@ impl Lines {
         self.put_word(&[after]);
     }
 
-    // Apart from `put_field`: a 64-bit number needs more room than a face's line has for one.
+    // Apart from `put_field`, since their room differs: 21 bytes here and 6 there, and the room of a face's line is three times the smaller.
     pub(crate) fn put_volume(&mut self, v: i64)
         requires { length self.old + volume_room ≤ listing_room }
         ensures put { self.new ≡ self.old ++ whole v ++ newline ∷ [] }
