@@ -23,7 +23,8 @@ fn add_side(table: &mut [[u16; 3]], at: usize, marks: &Marks, s: Side, k: Marker
     at + 1
 }
 
-// The cone from k over the border of the visible faces, whose sides are marked.
+// The cone from k over the border of the visible faces, whose sides are marked. The table comes with the place where it is free, as a
+// step of building has it: the faces before that place are its own.
 pub(crate) fn add_marked(
     table: &mut [[u16; 3]],
     start: usize,

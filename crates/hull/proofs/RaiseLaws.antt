@@ -67,6 +67,9 @@ module _ (cs : List ℤ) {n : ℕ} (c : n ≡ touch_count cs) where
 pub known_start : {cs : List ℤ} (f : Start) → Begun cs (start_of f) → KnownStart (touch_count cs) f
 known_start {cs} f b = let o = start_order (touch cs) (touch_count cs) b.begins in record { p = omega (arith, o); q = omega (arith, o); r = omega (arith, o); s = omega (arith, o) }
 
+pub taken_room : {cs : List ℤ} {s : Four} {k m n w : ℕ} {table : List Face} {planes : List Plane} → Begun cs s → Roomy cs n w → Taken cs s k m table planes → k ≤ touch_count cs → m ≤ n
+taken_room b w t l = omega (arith, t.count, after_room b l, w.room)
+
 pub start_room : {cs : List ℤ} {s : Four} {n w : ℕ} → Begun cs s → Roomy cs n w → 4 ≤ n
 unfolding build
 start_room b w = omega (arith, after_room b {k = 0} (omega arith), w.room)

@@ -9,12 +9,12 @@ use lib.IntN.{ℤ, ◌+ℤ◌, +ℤ_idr}
 use lib.ListN.{length, take, get_or}
 use lib.Seq.{take-suc, take_all}
 use mir.Syntax.{w64}
-use mir.Val.{to_z, of_z}
+use mir.Val.{to_z, of_z, SFits}
 use Rattle.laws.specs.Numbers.{Within}
 use Rattle.laws.specs.Lists.{sum_z}
 use Rattle.laws.proofs.Sums.{sum_append}
 use Rattle.laws.proofs.WithinLaws.{within_more}
-use Rattle.laws.proofs.Words.{Reads, r_add, stored}
+use Rattle.laws.proofs.Words.{Reads, r_add, fits, stored}
 use Rattle.touches.specs.declared.Point.{Point}
 use Rattle.touches.specs.Limits.{most_faces}
 use Rattle.volume.specs.Volume.{most_volume}
@@ -50,6 +50,9 @@ module _ {p : Places} {q : Point} {l : List Face} {i n : ℕ} (g : Summed p q l 
 
     whole : Reads (most_faces * most_read) (to_z w64 n +ℤ to_z w64 (of_z w64 v)) (so_far p q l (i + 1))
     whole = record { is = next.is; bound = within_more (mul-le-mul_right {n = most_faces} most_read (omega arith)) next.bound }
+
+    pub sum_fits : SFits w64 (to_z w64 n +ℤ to_z w64 (of_z w64 v))
+    sum_fits = fits w64 whole tt
 
     pub summed_more : Summed p q l (i + 1) (of_z w64 (to_z w64 n +ℤ to_z w64 (of_z w64 v)))
     summed_more = record { reads = record { is = (stored w64 whole tt).is; bound = next.bound } }

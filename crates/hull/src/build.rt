@@ -28,6 +28,7 @@ fn six_volume(list: &TouchList<'_>, work: &Work) -> i64
     ensures { result ≡ volume (touch list.now) (take work.now.count work.now.table.now) }
 {
     let q = touch(list, TouchNo(0));
+    // A loop and no `sum`, of which nothing is promised where numbers below 0 might leave 64 bits.
     let mut sum: i64 = 0;
     for &p in &work.planes[..work.count] {
         sum += read(p, q);

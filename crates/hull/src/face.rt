@@ -8,7 +8,7 @@ ghost use Rattle.rules.specs.Demands.{FaceOf};
 ghost use Rattle.points.specs.Sizes.{Number};
 
 use crate::four_corner::volume;
-use points::touch::touch;
+use points::touch::corners;
 use touches::{Place, TouchList, TouchNo};
 use triangles::contains;
 
@@ -16,9 +16,7 @@ pub(crate) fn face_volume(list: &TouchList<'_>, f: [TouchNo; 3], q: Place) -> i6
     requires { FaceOf list.now (plain f) }
     ensures { Number most_volume (face_vol (touch list.now) (plain f) q) result }
 {
-    let a = touch(list, f[0]);
-    let b = touch(list, f[1]);
-    let c = touch(list, f[2]);
+    let [a, b, c] = corners(list, f);
     volume(a, b, c, q)
 }
 
@@ -30,8 +28,6 @@ pub(crate) fn face_holds(list: &TouchList<'_>, f: [TouchNo; 3], q: Place, v: i64
     if v != 0 {
         return false;
     }
-    let a = touch(list, f[0]);
-    let b = touch(list, f[1]);
-    let c = touch(list, f[2]);
+    let [a, b, c] = corners(list, f);
     contains(a, b, c, q)
 }

@@ -61,6 +61,7 @@ fn look(list: &TouchList<'_>, faces: &[u16], q: Place) -> Result<Placed, Refusal
     let mut worst = None;
     let mut on = None;
     let mut plane = None;
+    // By number, since an answer names its face.
     for i in 0..table::room(faces) {
         let f = FaceNo(i as u16);
         let c = table::face(faces, f);

@@ -26,7 +26,7 @@ const ALL_MARKS: usize = TouchList::MOST * TouchList::MOST;
 
 // What the tables of planes and of marks start with. Zeros would be cleared by a call that emulators run byte by byte.
 const NO_PLANE: WholePlane = WholePlane {
-    normal: Point { x: 0, y: 0, z: 0 },
+    normal: Point::ORIGIN,
     offset: 1,
 };
 

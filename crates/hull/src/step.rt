@@ -15,7 +15,9 @@ use points::touch::touch;
 use points::whole::{WholePlane, plane_on};
 use touches::{Place, TouchList, TouchNo};
 
-// The face list, the first faces of a table, with their planes beside them; room for the faces that a touch sees; and the marks.
+// The face list, the first faces of a table, with their planes beside them; room for the faces that a touch sees; and the marks. Faces
+// and planes are two tables: `border` writes faces and knows no planes, and the search for the first visible face reads planes alone.
+// That the planes are those of the faces stands in the contracts and is no ghost field: it speaks of a list, and fails within `part`.
 #[derive(Drop)]
 pub(crate) struct Work<'a> {
     pub(crate) table: &'a mut [[u16; 3]],
@@ -66,6 +68,7 @@ impl Work<'_> {
             return 0;
         };
         self.seen[0] = self.table[first];
+        // By index: both tables close up in place, and nothing is moved twice.
         let mut m = first;
         let mut s = 1;
         for i in first + 1..n {

@@ -3,13 +3,11 @@ use mathlib.Core.Path.{◌≡◌, refl, sym, ap, ◌∙◌}
 use mathlib.Core.List.{List, [], ◌∷◌, ◌++◌, append_assoc, append-nil, map}
 use Prim.Native.Nat.{ℕ, ◌+◌, ◌<◌}
 use native.Mathlib.Numerals.{add-one}
-use native.Mathlib.Omega.{arith}
 use lib.ListN.{length, take, get_or}
 use lib.Seq.{take-suc}
 use Rattle.laws.specs.Lists.{lay}
 use Rattle.rules.specs.Faces.{Face}
-use Rattle.table.specs.Table.{room, numbers, lent, face_at, faces_in}
-use Rattle.table.proofs.TableLaws.{length_faces, face_at_lem}
+use Rattle.table.specs.Table.{numbers, lent, faces_in}
 use Rattle.table.proofs.LentLaws.{faces_laid}
 use Rattle.lister.specs.Listing.{face_line, face_lines}
 
@@ -27,13 +25,12 @@ unfolding face_lines
 lines_one f = simp append-nil
 
 -- the next face's line
-pub lines_next : (old : List ℕ) {mid after : List ℕ} (t : List ℕ) (i : ℕ) {f : Face} → i < room t → f ≡ face_at t i
-    → mid ≡ old ++ face_lines (take i (faces_in t)) → after ≡ mid ++ face_line f → after ≡ old ++ face_lines (take (i + 1) (faces_in t))
-lines_next old t i {f} h e p q =
-    let n : i < length (faces_in t) = omega (arith, length_faces t) in
-    let g = take i (faces_in t) in
-    let line : face_lines (get_or (faces_in t) i [] ∷ []) ≡ face_line f = lines_one (get_or (faces_in t) i []) ∙ ap face_line (face_at_lem t i h ∙ sym e) in
-    let more : face_lines (take (i + 1) (faces_in t)) ≡ face_lines g ++ face_line f = rw (add-one, take-suc (faces_in t) i [] n, lines_append g (get_or (faces_in t) i [] ∷ []), line) in
+pub lines_next : (old : List ℕ) {mid after : List ℕ} (h : List Face) (i : ℕ) {f : Face} → i < length h → f ≡ get_or h i []
+    → mid ≡ old ++ face_lines (take i h) → after ≡ mid ++ face_line f → after ≡ old ++ face_lines (take (i + 1) h)
+lines_next old h i {f} n e p q =
+    let g = take i h in
+    let line : face_lines (get_or h i [] ∷ []) ≡ face_line f = lines_one (get_or h i []) ∙ ap face_line (sym e) in
+    let more : face_lines (take (i + 1) h) ≡ face_lines g ++ face_line f = rw (add-one, take-suc h i [] n, lines_append g (get_or h i [] ∷ []), line) in
     q ∙ rw (p, more) (append_assoc old (face_lines g) (face_line f))
 
 -- ---- the faces of a table that building wrote

@@ -22,8 +22,7 @@ pub const MOST_BYTES: usize = 65536;
 // Room for the longest listing: the first line, and a line a face.
 pub const ROOM: usize = 32 + TouchList::ENOUGH_FACES * 18;
 
-// Not by Refusal's Display, which writes the same words: the contract names `refused_line`, and that Display promises no text.
-// One that promised it would do so only where the `write!` does not fail, and this function cannot fail.
+// Not by Refusal's Display, which writes the same words: a `write!` can fail, and this cannot.
 fn refused_lines(x: Refusal) -> Lines
     ensures { result ≡ refused_line x }
 {
@@ -54,13 +53,13 @@ fn put_face(lines: &mut Lines, f: [TouchNo; 3])
     lines.put_field(f[2].0, b'\n');
 }
 
-// A line for each of the first n faces. The table comes whole, since `table` alone knows how many numbers a face takes.
-fn put_faces(lines: &mut Lines, faces: &[u16], n: u16)
-    requires { (n ≤ room faces.now) × (length lines.old + n * face_room ≤ listing_room) }
-    ensures { lines.new ≡ lines.old ++ face_lines (take n (faces_in faces.now)) }
+// A line for each of the faces.
+fn put_faces(lines: &mut Lines, faces: &[[u16; 3]])
+    requires { length lines.old + length faces.now * face_room ≤ listing_room }
+    ensures { lines.new ≡ lines.old ++ face_lines faces.now }
 {
-    for i in 0..n {
-        put_face(lines, table::face(faces, FaceNo(i)));
+    for &f in faces {
+        put_face(lines, touches::corners(f));
     }
 }
 
@@ -72,7 +71,7 @@ fn hull_lines(coords: &[i32]) -> Result<Lines, Refusal>
     let hull = build(coords, &mut faces)?;
     let mut lines = Lines::new();
     put_hull(&mut lines, hull);
-    put_faces(&mut lines, &faces, hull.faces);
+    put_faces(&mut lines, &table::faces(&faces)[..usize::from(hull.faces)]);
     Ok(lines)
 }
 

@@ -1,4 +1,4 @@
-// Each answer taken apart into numbers, for callers in other languages.
+// Each answer taken apart into numbers, for callers in other languages: C has no Option and no Result.
 #![tactic(auto)]
 
 ghost use Rattle.std.specs.Prelude.{◌≡◌};

@@ -46,7 +46,7 @@ fn face_plane(list: &TouchList<'_>, a: TouchNo, b: TouchNo, c: TouchNo) -> Resul
     ensures { result ≡ face_plane list.now a.0 b.0 c.0 }
 {
     let n = list.count();
-    if n <= a.0 as usize || n <= b.0 as usize || n <= c.0 as usize {
+    if n <= usize::from(a.0) || n <= usize::from(b.0) || n <= usize::from(c.0) {
         return Err(Refusal::NoSuchFace);
     }
     let p = touch(list, a);

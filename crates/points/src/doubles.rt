@@ -25,7 +25,8 @@ impl From<Place> for Spot {
     }
 }
 
-// The normal of face (a, b, c): for points in range exactly the whole number, but a zero can be minus zero.
+// The normal of face (a, b, c): for points in range exactly the whole number, but a zero can be minus zero. Not one with
+// `vectors::normal`: this asks nothing of its points and promises the machine's own steps, that asks for range and gives whole numbers.
 pub fn normal(a: Spot, b: Spot, c: Spot) -> Spot
     ensures { result ≡ spot_normal a b c }
 {

@@ -42,7 +42,7 @@ pub fn dot(u: Point, v: Point) -> i64
     u.x * v.x + u.y * v.y + u.z * v.z
 }
 
-// The normal of face (a, b, c).
+// The normal of face (a, b, c). The corners stay three arguments, as in the papers' V(a, b, c, d) and in each definition.
 pub fn normal(a: Place, b: Place, c: Place) -> Point
     ensures { Vector most_normal (normal a b c) result }
 {

@@ -13,7 +13,7 @@ const BLANK_LIST: [i32; 256] = [9; 256];
 const BLANK_BUFFER: [u8; 400] = [9; 400];
 
 fn bytes_of(case: RecordCase) -> [u8; 65537] {
-    let at = 3 + case.touch as usize * 6;
+    let at = 3 + usize::from(case.touch) * 6;
     let x = case.x.to_be_bytes();
     let mut bytes = [0; 65537];
     bytes[..2].copy_from_slice(&case.n.to_be_bytes());
@@ -24,7 +24,7 @@ fn bytes_of(case: RecordCase) -> [u8; 65537] {
 }
 
 fn coords_of(case: ListCase) -> [i32; 259] {
-    let at = case.place as usize;
+    let at = usize::from(case.place);
     let mut coords = [0; 259];
     coords[at] = case.x;
     coords[at + 3] = case.x;
@@ -54,7 +54,7 @@ fn record_case(rt: &impl Print, case: RecordCase) -> io::Result<()> {
     let mut buffer = BLANK_BUFFER;
     let room = case.buffer.min(buffer.len());
     print!(rt; "record {case}")?;
-    read_case(rt, record, &mut list[..case.list as usize])?;
+    read_case(rt, record, &mut list[..usize::from(case.list)])?;
     copy_case(rt, record, &mut buffer[..room])?;
     println!(rt)
 }
@@ -64,7 +64,11 @@ fn list_case(rt: &impl Print, case: ListCase) -> io::Result<()> {
     let mut buffer = BLANK_BUFFER;
     let room = case.room.min(buffer.len());
     print!(rt; "list {case}")?;
-    write_case(rt, &coords[..case.numbers as usize], &mut buffer[..room])?;
+    write_case(
+        rt,
+        &coords[..usize::from(case.numbers)],
+        &mut buffer[..room],
+    )?;
     println!(rt)
 }
 

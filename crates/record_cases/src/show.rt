@@ -24,6 +24,7 @@ pub fn list(rt: &impl Print, list: &[i32]) -> io::Result<()> {
     Ok(())
 }
 
+// Apart from `list`: bytes are printed in two hexadecimal digits.
 pub fn bytes(rt: &impl Print, bytes: &[u8]) -> io::Result<()> {
     let changed = bytes.iter().filter(|b| **b != 9).count();
     print!(rt; " {changed}:")?;

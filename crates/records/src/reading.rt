@@ -10,13 +10,13 @@ use touches::{Refusal, TouchList};
 fn of_two(high: u8, low: u8) -> usize
     ensures { result ≡ of_two high low }
 {
-    u16::from_be_bytes([high, low]) as usize
+    usize::from(u16::from_be_bytes([high, low]))
 }
 
 fn coordinate(high: u8, low: u8) -> i32
     ensures { result ≡ signed16 (of_two high low) }
 {
-    i16::from_be_bytes([high, low]) as i32
+    i32::from(i16::from_be_bytes([high, low]))
 }
 
 // The coordinates of a body of whole touches, to the front of room.
@@ -25,6 +25,7 @@ fn unpack(room: &mut [i32], body: &[u8])
     requires room { length body.now / 2 ≤ length room.old }
     ensures { room.new ≡ lay 0 (touches_of body.now) room.old }
 {
+    // By index, since what a slice holds after its `iter_mut` is not known.
     for (i, pair) in body.chunks_exact(2).enumerate() {
         room[i] = coordinate(pair[0], pair[1]);
     }

@@ -18,7 +18,7 @@ pub fn put_bytes(text: &mut [u8], at: usize, new: &[u8]) -> usize
     next
 }
 
-// Two functions, since each promise names a definition of its own; one over `itoa::Integer` could name std's text alone.
+// Two functions, since `decimal` and `whole` are what the promises name; one over `itoa::Integer` could name std's text alone.
 pub fn put_decimal(text: &mut [u8], at: usize, n: u64) -> usize
     ensures { Put at (decimal n) text.old result text.new }
 {

@@ -11,20 +11,20 @@ use Rattle.volume.specs.Volume.{in_line}
 use Rattle.planes.specs.Planes.{plane_of, good_corners}
 use Rattle.planes.proofs.PlanedLaws.{bad_a, bad_b, bad_c, by_line, refused_6, plane_6}
 use Rattle.planes.proofs.face_plane.Goals as goal
-use Rattle.planes.proofs.face_plane.Goals.{then-n-a-via-then-n-a, then-n-a-via-else-n-a+then-n-b, then-n-a-via-else-n-a+else-n-b+then-n-c}
+use Rattle.planes.proofs.face_plane.Goals.{then-n-from-via-then-n-from, then-n-from-via-else-n-from+then-n-from-2, then-n-from-via-else-n-from+else-n-from-2+then-n-from-3}
 
 -- what `in_line` answered is said of the touches themselves
 found : (cs : List ℤ) (a b c : ℕ) {p q r : Point} (t : Bool) → a < touch_count cs → b < touch_count cs → c < touch_count cs → p ≡ touch cs a → q ≡ touch cs b → r ≡ touch cs c → t ≡ in_line p q r → good_corners cs a b c ≡ not t
 found cs a b c t h k l p q r f = by_line cs a b c h k l t (sym (f ∙ (λ i. in_line (p i) (q i) (r i))))
 
-pub returns-then-n-a : goal.returns-then-n-a
-returns-then-n-a c =
+pub returns-then-n-from : goal.returns-then-n-from
+returns-then-n-from c =
     let g = c.args in
     let cs = g.list.now in
-    refused_6 cs g.a.0 g.b.0 g.c.0 (elim c.then-n-a.branch [
-      | then-n-a-via-then-n-a w ↦ bad_a cs g.a.0 g.b.0 g.c.0 (omega arith)
-      | then-n-a-via-else-n-a+then-n-b w ↦ bad_b cs g.a.0 g.b.0 g.c.0 (omega arith) (omega arith)
-      | then-n-a-via-else-n-a+else-n-b+then-n-c w ↦ bad_c cs g.a.0 g.b.0 g.c.0 (omega arith) (omega arith) (omega arith)
+    refused_6 cs g.a.0 g.b.0 g.c.0 (elim c.then-n-from.branch [
+      | then-n-from-via-then-n-from w ↦ bad_a cs g.a.0 g.b.0 g.c.0 (omega arith)
+      | then-n-from-via-else-n-from+then-n-from-2 w ↦ bad_b cs g.a.0 g.b.0 g.c.0 (omega arith) (omega arith)
+      | then-n-from-via-else-n-from+else-n-from-2+then-n-from-3 w ↦ bad_c cs g.a.0 g.b.0 g.c.0 (omega arith) (omega arith) (omega arith)
     ])
 
 pub returns-then-in_line : goal.returns-then-in_line
