@@ -47,6 +47,7 @@ impl Work<'_> {
         ensures planes { Planed list.now self.old.count self.new.table.now self.new.planes.now }
         ensures same { (self.new.table.now ≡ self.old.table.now) × (self.new.count ≡ self.old.count) × (self.new.marks ≡ self.old.marks) }
     {
+        // By index: what a slice holds after its `iter_mut` is not known.
         for i in start..self.count {
             self.planes[i] = plane_on(list, touches::corners(self.table[i]));
         }
