@@ -17,7 +17,8 @@ use crate::marks::Marker;
 pub use crate::marks::Marks;
 use touches::TouchNo;
 
-// The cone from k over the border of the faces seen, from the free place at on: the next free place. No mark is of k or a later touch.
+// The cone from k over the border of the faces seen, from the free place at on: the next free place. No mark is of k or a later
+// touch (`Fresh`), and the faces are over the table's touches (`FacesOver`): both speak of two arguments, so no type holds them.
 pub fn add_cone(
     table: &mut [[u16; 3]],
     at: usize,

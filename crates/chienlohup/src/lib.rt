@@ -12,7 +12,7 @@ ghost use Rattle.numbers.specs.Numbers.{said, built_numbers, placed_numbers, pla
 
 use touches::{Point, Refusal, TouchNo};
 
-// A record's numbers: its count of touches or bytes is small.
+// A record's numbers for C: its count of touches or bytes is small, and of a `usize` there is no `From`.
 fn record_numbers(a: Result<usize, Refusal>) -> [i64; 3]
     requires { count_given a ≤ 65535 }
     ensures { result ≡ record_numbers a }
@@ -21,6 +21,7 @@ fn record_numbers(a: Result<usize, Refusal>) -> [i64; 3]
     [number, place, a.unwrap_or(0) as i64]
 }
 
+// C hands three numbers, and not a place.
 fn place_at(x: i32, y: i32, z: i32) -> Point
     ensures { result ≡ place_at x y z }
 {

@@ -1,4 +1,5 @@
-// V of a face, given by its touch numbers, and a point; and whether the face holds the point.
+// V of a face, given by its touch numbers, and a point; and whether the face holds the point. That the numbers are those of touches
+// (`FaceOf`) stands in the contracts: no type of a face knows the list.
 ghost use Rattle.std.specs.Prelude.{◌≡◌};
 ghost use Rattle.touches.specs.Touches.{touch, plain};
 ghost use Rattle.volume.specs.Volume.{most_volume};

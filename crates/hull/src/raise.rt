@@ -10,6 +10,7 @@ use crate::step::Work;
 use touches::{TouchList, TouchNo};
 
 impl Work<'_> {
+    // What a start is (`Begun`) is asked for by each step from it: it speaks of the list and the start, and the type of neither holds it.
     // The hull of the touches becomes the face list. Every touch that is not of the start is taken, by rising number.
     pub(crate) fn raise(&mut self, list: &TouchList<'_>, s: Start)
         requires { Begun list.now (start_of s) × Roomy list.now (length self.old.table.now) self.old.marks.width

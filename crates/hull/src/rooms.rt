@@ -1,4 +1,4 @@
-// The tables that building works in: n touches give at most 2n − 4 faces after every step (`cover` FewFaces), so none is ever full.
+// The tables that building works in, of fixed sizes, since the library has no heap: n touches give at most 2n − 4 faces after every step (`cover` FewFaces), so none is ever full.
 ghost use Rattle.std.specs.Prelude.{◌*◌, ◌^◌, ◌<◌, ◌≤◌};
 ghost use Rattle.touches.specs.Touches.{touch_count};
 ghost use Rattle.cover.specs.Room.{enough};

@@ -47,7 +47,7 @@ impl Work<'_> {
         ensures planes { Planed list.now self.old.count self.new.table.now self.new.planes.now }
         ensures same { (self.new.table.now ≡ self.old.table.now) × (self.new.count ≡ self.old.count) × (self.new.marks ≡ self.old.marks) }
     {
-        // By index: what a slice holds after its `iter_mut` is not known.
+        // By index: no invariant can speak of what is written through `iter_mut().zip(..)`, and the proof does not close.
         for i in start..self.count {
             self.planes[i] = plane_on(list, touches::corners(self.table[i]));
         }
@@ -69,7 +69,7 @@ impl Work<'_> {
             return 0;
         };
         self.seen[0] = self.table[first];
-        // By index: both tables close up in place, and nothing is moved twice.
+        // By index: both tables close up in place. `retain` is a Vec's, and the library has no heap.
         let mut m = first;
         let mut s = 1;
         for i in first + 1..n {

@@ -39,6 +39,7 @@ impl Lines {
         &self.room[..self.end]
     }
 
+    // Here and below the room is asked for: how much is left depends on what was put.
     pub(crate) fn put_word(&mut self, word: &[u8])
         requires { length self.old + length word.now ≤ listing_room }
         ensures { self.new ≡ self.old ++ word.now }

@@ -42,7 +42,8 @@ pub fn dot(u: Point, v: Point) -> i64
     u.x * v.x + u.y * v.y + u.z * v.z
 }
 
-// The normal of face (a, b, c). The corners stay three arguments, as in the papers' V(a, b, c, d) and in each definition.
+// The normal of face (a, b, c). The corners stay three arguments, here and in every step above: the contracts are equalities with
+// `normal`, `Vol` and `contains`, which take them so.
 pub fn normal(a: Place, b: Place, c: Place) -> Point
     ensures { Vector most_normal (normal a b c) result }
 {

@@ -6,6 +6,7 @@ mod show;
 
 use cases::{LISTS, ListCase, RECORD_T, RECORDS, RecordCase, T};
 use std::io;
+use touches::Refusal;
 
 // Lent tables are all 9 before a call.
 const BLANK_LIST: [i32; 256] = [9; 256];
@@ -36,13 +37,14 @@ fn read_case(rt: &impl Print, bytes: &[u8], list: &mut [i32]) -> io::Result<()> 
     show::list(rt, list)
 }
 
-fn write_case(rt: &impl Print, coords: &[i32], buffer: &mut [u8]) -> io::Result<()> {
-    show::answer(rt, "write", records::write(coords, buffer))?;
-    show::bytes(rt, buffer)
-}
-
-fn copy_case(rt: &impl Print, bytes: &[u8], buffer: &mut [u8]) -> io::Result<()> {
-    show::answer(rt, "copy", records::copy(bytes, buffer))?;
+// What writing or copying answered, and the buffer.
+fn buffer_case(
+    rt: &impl Print,
+    call: &str,
+    answer: Result<usize, Refusal>,
+    buffer: &[u8],
+) -> io::Result<()> {
+    show::answer(rt, call, answer)?;
     show::bytes(rt, buffer)
 }
 
@@ -55,7 +57,8 @@ fn record_case(rt: &impl Print, case: RecordCase) -> io::Result<()> {
     let room = case.buffer.min(buffer.len());
     print!(rt; "record {case}")?;
     read_case(rt, record, &mut list[..usize::from(case.list)])?;
-    copy_case(rt, record, &mut buffer[..room])?;
+    let copied = records::copy(record, &mut buffer[..room]);
+    buffer_case(rt, "copy", copied, &buffer[..room])?;
     println!(rt)
 }
 
@@ -64,11 +67,8 @@ fn list_case(rt: &impl Print, case: ListCase) -> io::Result<()> {
     let mut buffer = BLANK_BUFFER;
     let room = case.room.min(buffer.len());
     print!(rt; "list {case}")?;
-    write_case(
-        rt,
-        &coords[..usize::from(case.numbers)],
-        &mut buffer[..room],
-    )?;
+    let written = records::write(&coords[..usize::from(case.numbers)], &mut buffer[..room]);
+    buffer_case(rt, "write", written, &buffer[..room])?;
     println!(rt)
 }
 
@@ -78,8 +78,10 @@ fn t_cases(rt: &impl Print) -> io::Result<()> {
     let mut copied = [9; 29];
     print!(rt; "T")?;
     read_case(rt, &RECORD_T, &mut list)?;
-    write_case(rt, &T, &mut written)?;
-    copy_case(rt, &RECORD_T, &mut copied)?;
+    let answer = records::write(&T, &mut written);
+    buffer_case(rt, "write", answer, &written)?;
+    let answer = records::copy(&RECORD_T, &mut copied);
+    buffer_case(rt, "copy", answer, &copied)?;
     println!(rt)
 }
 

@@ -14,22 +14,27 @@ pub fn answer(rt: &impl Print, call: &str, answer: Result<usize, Refusal>) -> io
     }
 }
 
-// How many numbers of a table that was all 9 are not, and the first 30.
-pub fn list(rt: &impl Print, list: &[i32]) -> io::Result<()> {
-    let changed = list.iter().filter(|x| **x != 9).count();
+// How many numbers of a table that was all 9 are not, and the first 30, each by the closure.
+fn table<T: Copy, F: Fn(T) -> bool, S: Fn(T) -> io::Result<()>>(
+    rt: &impl Print,
+    items: &[T],
+    is_blank: F,
+    show: S,
+) -> io::Result<()>
+    requires { F.IsAlwaysCallable is_blank × S.IsAlwaysCallable show }
+{
+    let changed = items.iter().filter(|x| !is_blank(**x)).count();
     print!(rt; " {changed}:")?;
-    for x in list.iter().take(30) {
-        print!(rt; " {x}")?;
+    for x in items.iter().take(30) {
+        show(*x)?;
     }
     Ok(())
 }
 
-// Apart from `list`: bytes are printed in two hexadecimal digits.
+pub fn list(rt: &impl Print, list: &[i32]) -> io::Result<()> {
+    table(rt, list, |x| x == 9, |x| print!(rt; " {x}"))
+}
+
 pub fn bytes(rt: &impl Print, bytes: &[u8]) -> io::Result<()> {
-    let changed = bytes.iter().filter(|b| **b != 9).count();
-    print!(rt; " {changed}:")?;
-    for b in bytes.iter().take(30) {
-        print!(rt; " {b:02x}")?;
-    }
-    Ok(())
+    table(rt, bytes, |b| b == 9, |b| print!(rt; " {b:02x}"))
 }

@@ -25,7 +25,7 @@ fn unpack(room: &mut [i32], body: &[u8])
     requires room { length body.now / 2 ≤ length room.old }
     ensures { room.new ≡ lay 0 (touches_of body.now) room.old }
 {
-    // By index, since what a slice holds after its `iter_mut` is not known.
+    // By index: no invariant can speak of what is written through `iter_mut().zip(..)`, and the proof does not close.
     for (i, pair) in body.chunks_exact(2).enumerate() {
         room[i] = coordinate(pair[0], pair[1]);
     }

@@ -66,7 +66,7 @@ fn put_all(faces: &mut [u16], hull: &[[u16; 3]])
     requires { length hull.now ≤ room faces.old }
     ensures { faces.new ≡ lay 0 (lent hull.now) faces.old }
 {
-    // By place: what the lent numbers hold after their chunks were lent to write is not known.
+    // By place: no invariant can speak of what is written through `iter_mut().zip(..)`, and the proof does not close.
     for (i, f) in hull.iter().enumerate() {
         put_face(faces, i * STRIDE, f);
     }

@@ -1,5 +1,6 @@
 // Numbers and bytes as text in a lent table, from a place on. Each call gives the next place; where there is no room for
-// all of its text it writes nothing and gives the same place.
+// all of its text it writes nothing and gives the same place: a place and no Option, and table and place apart, as `Put` has them, which
+// the promises name.
 #![tactic(auto)]
 
 ghost use Rattle.text.specs.Decimal.{decimal, whole};

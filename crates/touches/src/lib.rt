@@ -75,7 +75,7 @@ fn first_stray(coords: &[i32]) -> Option<TouchNo>
     Some(TouchNo((i / 3) as u16))
 }
 
-// Refusals 1, 2 and 3 of a lent coordinate list, in this order.
+// Refusals 1, 2 and 3 of a lent coordinate list, in this order. A function and no `TryFrom`, since it is a call, which the pages name.
 pub fn check(coords: &[i32]) -> Result<TouchList<'_>, Refusal>
     ensures { result ≡ checked coords.now }
 {
