@@ -16,6 +16,7 @@ fn bits_of(x: i32) -> u16
     (x as i16).cast_unsigned()
 }
 
+// Buffer and place apart, here and below: the bytes go into the lent buffer itself, and the next place is the answer.
 fn put_two(buffer: &mut [u8], at: usize, n: u16) -> usize
     requires { at + 2 ≤ length buffer.old }
     ensures { Laid at (two_bytes n) buffer.old result buffer.new }
