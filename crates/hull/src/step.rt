@@ -73,12 +73,14 @@ impl Work<'_> {
         let mut m = first;
         let mut s = 1;
         for i in first + 1..n {
-            if in_front(self.planes[i], q) {
+            // Read once, and moved as it was read: from place to place in the table a plane goes by vector code, at which emulators are slow.
+            let p = self.planes[i];
+            if in_front(p, q) {
                 self.seen[s] = self.table[i];
                 s += 1;
             } else {
                 self.table[m] = self.table[i];
-                self.planes[m] = self.planes[i];
+                self.planes[m] = p;
                 m += 1;
             }
         }

@@ -44,7 +44,7 @@ loop-i-preserved c =
         marks = g.marks;
         parting = parting_seen g.parting h w.holds (rw p at (sym c.in_front.ensures ∙ v.if-in_front.true));
       })
-      | else-in_front v ↦ rw (v.self-is, v.m-is, v.s-is, get_or_default l.self.planes.now l.i v.index-self-i-else-in_front.result no_plane b) (record {
+      | else-in_front v ↦ rw (v.self-is, v.m-is, v.s-is, p) (record {
         kept = omega (arith, g.kept);
         visible = omega (arith, g.visible);
         table_long = length-set _ _ _ ∙ g.table_long;
