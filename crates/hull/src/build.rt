@@ -24,8 +24,8 @@ pub struct Hull {
 
 // The sum of V(face, touch 0).
 fn six_volume(list: &TouchList<'_>, work: &Work) -> i64
-    requires { (0 < touch_count list.now) × Planed list.now work.now.count work.now.table.now work.now.planes.now × (work.now.count ≤ most_faces) }
-    ensures { result ≡ volume (touch list.now) (take work.now.count work.now.table.now) }
+    requires { (0 < touch_count list.now.lent.now) × Planed list.now.lent.now work.now.count work.now.table.now work.now.planes.now × (work.now.count ≤ most_faces) }
+    ensures { result ≡ volume (touch list.now.lent.now) (take work.now.count work.now.table.now) }
 {
     let q = touch(list, TouchNo(0));
     // A loop and no `sum`, of which nothing is promised where numbers below 0 might leave 64 bits.
@@ -42,8 +42,8 @@ pub(crate) fn write_hull(
     list: &TouchList<'_>,
     work: &Work,
 ) -> Result<Hull, Refusal>
-    requires { (0 < touch_count list.now) × Planed list.now work.now.count work.now.table.now work.now.planes.now × (work.now.count ≤ most_faces) }
-    ensures { Builds list.now (some (take work.now.count work.now.table.now)) faces.old result faces.new }
+    requires { (0 < touch_count list.now.lent.now) × Planed list.now.lent.now work.now.count work.now.table.now work.now.planes.now × (work.now.count ≤ most_faces) }
+    ensures { Builds list.now.lent.now (some (take work.now.count work.now.table.now)) faces.old result faces.new }
 {
     if !table::put_faces(faces, &work.table[..work.count]) {
         return Err(Refusal::FaceTableTooSmall);

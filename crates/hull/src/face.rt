@@ -14,8 +14,8 @@ use touches::{Place, TouchList, TouchNo};
 use triangles::contains;
 
 pub(crate) fn face_volume(list: &TouchList<'_>, f: [TouchNo; 3], q: Place) -> i64
-    requires { FaceOf list.now (plain f) }
-    ensures { Number most_volume (face_vol (touch list.now) (plain f) q) result }
+    requires { FaceOf list.now.lent.now (plain f) }
+    ensures { Number most_volume (face_vol (touch list.now.lent.now) (plain f) q) result }
 {
     let [a, b, c] = corners(list, f);
     volume(a, b, c, q)
@@ -23,8 +23,8 @@ pub(crate) fn face_volume(list: &TouchList<'_>, f: [TouchNo; 3], q: Place) -> i6
 
 // V of the face and q is known: v.
 pub(crate) fn face_holds(list: &TouchList<'_>, f: [TouchNo; 3], q: Place, v: i64) -> bool
-    requires { FaceOf list.now (plain f) × Number most_volume (face_vol (touch list.now) (plain f) q) v }
-    ensures { result ≡ holds (touch list.now) (plain f) q }
+    requires { FaceOf list.now.lent.now (plain f) × Number most_volume (face_vol (touch list.now.lent.now) (plain f) q) v }
+    ensures { result ≡ holds (touch list.now.lent.now) (plain f) q }
 {
     if v != 0 {
         return false;

@@ -55,8 +55,8 @@ fn settle(
 }
 
 fn look(list: &TouchList<'_>, faces: &[u16], q: Place) -> Result<Placed, Refusal>
-    requires { usable (touch_count list.now) faces.now ≡ true }
-    ensures { result ≡ placed_by (lies (touch list.now) (faces_in faces.now) q) }
+    requires { usable (touch_count list.now.lent.now) faces.now ≡ true }
+    ensures { result ≡ placed_by (lies (touch list.now.lent.now) (faces_in faces.now) q) }
 {
     let mut worst = None;
     let mut on = None;

@@ -13,9 +13,9 @@ impl Work<'_> {
     // What a start is (`Begun`) is asked for by each step from it: it speaks of the list and the start, and the type of neither holds it.
     // The hull of the touches becomes the face list. Every touch that is not of the start is taken, by rising number.
     pub(crate) fn raise(&mut self, list: &TouchList<'_>, s: Start)
-        requires { Begun list.now (start_of s) × Roomy list.now (length self.old.table.now) self.old.marks.width
+        requires { Begun list.now.lent.now (start_of s) × Roomy list.now.lent.now (length self.old.table.now) self.old.marks.width
             × Fresh 0 self.old.marks.table.now }
-        ensures taken { Taken list.now (start_of s) (touch_count list.now) self.new.count self.new.table.now self.new.planes.now }
+        ensures taken { Taken list.now.lent.now (start_of s) (touch_count list.now.lent.now) self.new.count self.new.table.now self.new.planes.now }
         ensures same_room { length self.new.table.now ≡ length self.old.table.now }
     {
         self.count = put_start(self.table, list, s);

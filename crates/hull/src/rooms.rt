@@ -45,9 +45,9 @@ fn build_in<const FACES: usize, const MARKS: usize>(
     list: &TouchList<'_>,
     s: Start,
 ) -> Result<Hull, Refusal>
-    requires { Begun list.now (start_of s) × (enough (touch_count list.now) ≤ FACES)
-        × (touch_count list.now * touch_count list.now ≤ MARKS) × (FACES < 2 ^ 32) × (MARKS < 2 ^ 32) }
-    ensures { Builds list.now (hull_of list.now) faces.old result faces.new }
+    requires { Begun list.now.lent.now (start_of s) × (enough (touch_count list.now.lent.now) ≤ FACES)
+        × (touch_count list.now.lent.now * touch_count list.now.lent.now ≤ MARKS) × (FACES < 2 ^ 32) × (MARKS < 2 ^ 32) }
+    ensures { Builds list.now.lent.now (hull_of list.now.lent.now) faces.old result faces.new }
 {
     let mut table = [[0u16; 3]; FACES];
     let mut planes = [NO_PLANE; FACES];
@@ -67,8 +67,8 @@ fn build_in<const FACES: usize, const MARKS: usize>(
 
 // Building from the start, in the smallest tables that are enough.
 pub(crate) fn build_from(faces: &mut [u16], list: &TouchList<'_>, s: Start) -> Result<Hull, Refusal>
-    requires { Begun list.now (start_of s) }
-    ensures { Builds list.now (hull_of list.now) faces.old result faces.new }
+    requires { Begun list.now.lent.now (start_of s) }
+    ensures { Builds list.now.lent.now (hull_of list.now.lent.now) faces.old result faces.new }
 {
     if list.count() <= FEW {
         build_in::<FEW_FACES, FEW_MARKS>(faces, list, s)

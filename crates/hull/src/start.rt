@@ -33,9 +33,9 @@ impl Start {
 
 // The first touch that suits.
 fn first_touch<F: Fn(TouchNo) -> bool>(list: &TouchList<'_>, suits: F) -> Option<TouchNo>
-    requires { (k : TouchNo) → k.0 < touch_count list.now → F.pre suits k }
+    requires { (k : TouchNo) → k.0 < touch_count list.now.lent.now → F.pre suits k }
     ensures { (q : ℕ → Bool) → ((k : TouchNo) → (b : Bool) → F.post suits k b → b ≡ q k.0)
-        → result ≡ found_of (first q (upward 0 (touch_count list.now))) }
+        → result ≡ found_of (first q (upward 0 (touch_count list.now.lent.now))) }
 {
     (0..list.count() as u16).map(TouchNo).find(
         |k|
@@ -46,15 +46,15 @@ fn first_touch<F: Fn(TouchNo) -> bool>(list: &TouchList<'_>, suits: F) -> Option
 
 // Q: the first touch apart from P.
 fn find_q(list: &TouchList<'_>) -> Option<TouchNo>
-    ensures { result ≡ found_of (first (is_apart (touch list.now)) (upward 0 (touch_count list.now))) }
+    ensures { result ≡ found_of (first (is_apart (touch list.now.lent.now)) (upward 0 (touch_count list.now.lent.now))) }
 {
     first_touch(list, |k| touch(list, TouchNo(0)) != touch(list, k))
 }
 
 // R: the first touch off the line of P and Q.
 fn find_r(list: &TouchList<'_>, q: TouchNo) -> Option<TouchNo>
-    requires { q.0 < touch_count list.now }
-    ensures { result ≡ found_of (first (is_off_line (touch list.now) q.0) (upward 0 (touch_count list.now))) }
+    requires { q.0 < touch_count list.now.lent.now }
+    ensures { result ≡ found_of (first (is_off_line (touch list.now.lent.now) q.0) (upward 0 (touch_count list.now.lent.now))) }
 {
     let p = touch(list, TouchNo(0));
     let q = touch(list, q);
@@ -63,8 +63,8 @@ fn find_r(list: &TouchList<'_>, q: TouchNo) -> Option<TouchNo>
 
 // S: the first touch off the plane of P, Q and R.
 fn find_s(list: &TouchList<'_>, q: TouchNo, r: TouchNo) -> Option<TouchNo>
-    requires { (q.0 < touch_count list.now) × (r.0 < touch_count list.now) }
-    ensures { result ≡ found_of (first (is_off_plane (touch list.now) q.0 r.0) (upward 0 (touch_count list.now))) }
+    requires { (q.0 < touch_count list.now.lent.now) × (r.0 < touch_count list.now.lent.now) }
+    ensures { result ≡ found_of (first (is_off_plane (touch list.now.lent.now) q.0 r.0) (upward 0 (touch_count list.now.lent.now))) }
 {
     let p = touch(list, TouchNo(0));
     let q = touch(list, q);
@@ -74,7 +74,7 @@ fn find_s(list: &TouchList<'_>, q: TouchNo, r: TouchNo) -> Option<TouchNo>
 
 // P, Q, R and S, or none where the touches are flat.
 pub(crate) fn find_start(list: &TouchList<'_>) -> Option<Start>
-    ensures { result ≡ started_of (start (touch list.now) (touch_count list.now)) }
+    ensures { result ≡ started_of (start (touch list.now.lent.now) (touch_count list.now.lent.now)) }
 {
     let q = find_q(list)?;
     let r = find_r(list, q)?;
@@ -89,8 +89,8 @@ pub(crate) fn find_start(list: &TouchList<'_>) -> Option<Start>
 
 // A, B, C, D.
 fn corners(list: &TouchList<'_>, s: Start) -> [u16; 4]
-    requires { KnownStart (touch_count list.now) s }
-    ensures { result ≡ corners (touch list.now) (start_of s) }
+    requires { KnownStart (touch_count list.now.lent.now) s }
+    ensures { result ≡ corners (touch list.now.lent.now) (start_of s) }
 {
     let p = touch(list, s.p);
     let q = touch(list, s.q);
@@ -104,8 +104,8 @@ fn corners(list: &TouchList<'_>, s: Start) -> [u16; 4]
 
 // The four starting faces: how many they are.
 pub(crate) fn put_start(table: &mut [[u16; 3]], list: &TouchList<'_>, s: Start) -> usize
-    requires { KnownStart (touch_count list.now) s × (4 ≤ length table.old) }
-    ensures { Laid 0 (start_faces (corners (touch list.now) (start_of s))) table.old result table.new }
+    requires { KnownStart (touch_count list.now.lent.now) s × (4 ≤ length table.old) }
+    ensures { Laid 0 (start_faces (corners (touch list.now.lent.now) (start_of s))) table.old result table.new }
 {
     let abcd = corners(list, s);
     for (i, [a, b, c]) in START.iter().enumerate() {

@@ -42,9 +42,9 @@ impl Work<'_> {
 
     // The planes of the faces from number start on, beside those before them.
     pub(crate) fn put_planes(&mut self, list: &TouchList<'_>, start: usize)
-        requires { Planed list.now start self.old.table.now self.old.planes.now × (start ≤ self.old.count)
-            × ((j : ℕ) → start ≤ j → j < self.old.count → FaceOf list.now (get_or self.old.table.now j [])) }
-        ensures planes { Planed list.now self.old.count self.new.table.now self.new.planes.now }
+        requires { Planed list.now.lent.now start self.old.table.now self.old.planes.now × (start ≤ self.old.count)
+            × ((j : ℕ) → start ≤ j → j < self.old.count → FaceOf list.now.lent.now (get_or self.old.table.now j [])) }
+        ensures planes { Planed list.now.lent.now self.old.count self.new.table.now self.new.planes.now }
         ensures same { (self.new.table.now ≡ self.old.table.now) × (self.new.count ≡ self.old.count) × (self.new.marks ≡ self.old.marks) }
     {
         // By index: no invariant can speak of what is written through `iter_mut().zip(..)`, and the proof does not close.
@@ -56,10 +56,10 @@ impl Work<'_> {
     // The faces that are not visible from k stay, with their planes, and the visible ones go to seen, each in their order: how many
     // are visible. Nothing moves before the first of them.
     fn part(&mut self, list: &TouchList<'_>, k: TouchNo) -> usize
-        requires { Ready list.now (take self.old.count self.old.table.now) k.0 × Planed list.now self.old.count self.old.table.now self.old.planes.now }
-        ensures faces { PartOf list.now (take self.old.count self.old.table.now) k.0 self.old.table.now
+        requires { Ready list.now.lent.now (take self.old.count self.old.table.now) k.0 × Planed list.now.lent.now self.old.count self.old.table.now self.old.planes.now }
+        ensures faces { PartOf list.now.lent.now (take self.old.count self.old.table.now) k.0 self.old.table.now
             self.new.count self.new.table.now result self.new.seen.now }
-        ensures planes { Planed list.now self.new.count self.new.table.now self.new.planes.now }
+        ensures planes { Planed list.now.lent.now self.new.count self.new.table.now self.new.planes.now }
         ensures same_room { length self.new.table.now ≡ length self.old.table.now }
         ensures same_marks { self.new.marks ≡ self.old.marks }
     {
@@ -90,11 +90,11 @@ impl Work<'_> {
 
     // Touch k is taken.
     pub(crate) fn step(&mut self, list: &TouchList<'_>, k: TouchNo)
-        requires { Ready list.now (take self.old.count self.old.table.now) k.0 × Planed list.now self.old.count self.old.table.now self.old.planes.now
-            × (self.old.marks.width ≡ touch_count list.now) × Fresh k.0 self.old.marks.table.now
-            × (length (step (touch list.now) (take self.old.count self.old.table.now) k.0) ≤ length self.old.table.now) }
-        ensures faces { Laid 0 (step (touch list.now) (take self.old.count self.old.table.now) k.0) self.old.table.now self.new.count self.new.table.now }
-        ensures planes { Planed list.now self.new.count self.new.table.now self.new.planes.now }
+        requires { Ready list.now.lent.now (take self.old.count self.old.table.now) k.0 × Planed list.now.lent.now self.old.count self.old.table.now self.old.planes.now
+            × (self.old.marks.width ≡ touch_count list.now.lent.now) × Fresh k.0 self.old.marks.table.now
+            × (length (step (touch list.now.lent.now) (take self.old.count self.old.table.now) k.0) ≤ length self.old.table.now) }
+        ensures faces { Laid 0 (step (touch list.now.lent.now) (take self.old.count self.old.table.now) k.0) self.old.table.now self.new.count self.new.table.now }
+        ensures planes { Planed list.now.lent.now self.new.count self.new.table.now self.new.planes.now }
         ensures marks { Fresh (k.0 + 1) self.new.marks.table.now }
         ensures same_room { length self.new.table.now ≡ length self.old.table.now }
         ensures same_width { self.new.marks.width ≡ self.old.marks.width }

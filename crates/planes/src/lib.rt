@@ -43,7 +43,7 @@ fn read_at(p: Plane, q: Place) -> f64
 
 // The plane of three touches of a list that passed, or refusal 6.
 fn face_plane(list: &TouchList<'_>, a: TouchNo, b: TouchNo, c: TouchNo) -> Result<Plane, Refusal>
-    ensures { result ≡ face_plane list.now a.0 b.0 c.0 }
+    ensures { result ≡ face_plane list.now.lent.now a.0 b.0 c.0 }
 {
     let n = list.count();
     if n <= usize::from(a.0) || n <= usize::from(b.0) || n <= usize::from(c.0) {

@@ -1,8 +1,8 @@
 -- Building into a table of the call's own, with room for every hull: what it left, and that it refuses what the plumb line refuses.
-use mathlib.Core.Path.{◌≡◌, refl, sym, ap, ◌∙◌}
+use mathlib.Core.Path.{◌≡◌, refl, sym, ap, subst, ◌∙◌}
 use mathlib.Core.List.{List}
 use mathlib.Core.Option.{Option, none, some}
-use Prim.Native.Nat.{ℕ, ◌≤◌}
+use Prim.Native.Nat.{ℕ, ◌*◌, ◌≤◌}
 use native.Mathlib.Omega.{arith}
 use lib.IntN.{ℤ}
 use lib.ListN.{length}
@@ -15,7 +15,8 @@ use Rattle.touches.proofs.SoundLaws.{accepted_sound}
 use Rattle.rules.specs.Faces.{Face}
 use Rattle.rules.proofs.Theorems.{accepted_few}
 use Rattle.cover.specs.Room.{enough}
-use Rattle.table.specs.Table.{room, lent, first_faces}
+use Rattle.table.specs.Table.{stride, room, lent, first_faces}
+use Rattle.table.proofs.LentLaws.{room_laid}
 use Rattle.hull.specs.Build.{hull_of, built_from, built, table_after}
 use Rattle.hull.specs.declared.build.Hull.{Hull}
 use Rattle.hull.proofs.BuildLaws.{room_enough}
@@ -41,10 +42,12 @@ pub record Filled (cs : List ℤ) (n : ℕ) (t : List ℕ) : Type 0 where
   pub is : hull_of cs ≡ some faces
   pub part : first_faces n t ≡ lent faces
   pub count : n ≡ length faces
+  pub long : n * stride ≤ length t
 
 pub own_filled : (cs : List ℤ) (old : List ℕ) {u : Hull} → Ok u ≡ built cs old → {after : List ℕ} → after ≡ table_after (Ok u) (hull_of cs) old → Filled cs u.faces after
 own_filled cs old {u} e {after} t =
     let i = inverted cs old (sym e) in
     let h = i.0 in
     let a = t ∙ ap (λ (r : Result Hull Refusal). table_after r (hull_of cs) old) e in
-    record { sound = i.1.sound; faces = h; is = i.1.is; part = ap (first_faces u.faces) a ∙ i.1.part; count = i.1.count }
+    let r : length h ≤ room after = subst (λ (l : List ℕ). length h ≤ room l) (sym (a ∙ i.1.table)) (room_laid h old) in
+    record { sound = i.1.sound; faces = h; is = i.1.is; part = ap (first_faces u.faces) a ∙ i.1.part; count = i.1.count; long = omega (arith, i.1.count) }

@@ -56,8 +56,8 @@ fn rest(p: WholePlane, q: Place) -> i64
 
 // The faces one after another, at q's x and y.
 pub(crate) fn tightest(list: &TouchList<'_>, faces: &[u16], q: Place) -> Bounds
-    requires { usable (touch_count list.now) faces.now ≡ true }
-    ensures { bounds_of result ≡ bounds (touch list.now) q.x q.y unbounded (faces_in faces.now) }
+    requires { usable (touch_count list.now.lent.now) faces.now ≡ true }
+    ensures { bounds_of result ≡ bounds (touch list.now.lent.now) q.x q.y unbounded (faces_in faces.now) }
 {
     let mut b = Bounds {
         admits: true,

@@ -16,7 +16,7 @@ ghost use Rattle.plumb.specs.Plumb.{rounded, plumbed_by, plumbed};
 use crate::bounds::{Bounds, tightest};
 use crate::fractions::Fraction;
 use std::cmp::Ordering;
-use touches::{Place, Point, Refusal};
+use touches::{Place, Point, Refusal, TouchList};
 
 // The line misses, touches at a height, or enters at the upper height and leaves at the lower one.
 #[derive(Clone, Copy)]
@@ -58,9 +58,10 @@ fn plumb_in(faces: &mut [u16], coords: &[i32], x: i64, y: i64) -> Result<Plumbed
     requires { enough most_touches ≤ room faces.old }
     ensures { result ≡ plumbed coords.now x y }
 {
-    let list = touches::check(coords)?;
     let hull = hull::build::build(coords, faces)?;
     let q = Place::try_from(Point { x, y, z: 0 })?;
+    // Building has checked the list.
+    let list = TouchList { lent: coords };
     let end = table::numbers_of(hull.faces);
     Ok(reading(tightest(&list, &faces[..end], q)))
 }

@@ -7,8 +7,8 @@ ghost use Rattle.points.specs.Corners.{places_of};
 use touches::{Place, TouchList, TouchNo};
 
 pub fn touch(list: &TouchList<'_>, k: TouchNo) -> Place
-    requires { k.0 < touch_count list.now }
-    ensures { result ≡ touch list.now k.0 }
+    requires { k.0 < touch_count list.now.lent.now }
+    ensures { result ≡ touch list.now.lent.now k.0 }
 {
     let coords = list.coords();
     let at = usize::from(k.0) * 3;
@@ -20,8 +20,8 @@ pub fn touch(list: &TouchList<'_>, k: TouchNo) -> Place
 }
 
 pub fn corners(list: &TouchList<'_>, f: [TouchNo; 3]) -> [Place; 3]
-    requires { FaceOf list.now (plain f) }
-    ensures { result ≡ places_of (touch list.now) (plain f) }
+    requires { FaceOf list.now.lent.now (plain f) }
+    ensures { result ≡ places_of (touch list.now.lent.now) (plain f) }
 {
     [touch(list, f[0]), touch(list, f[1]), touch(list, f[2])]
 }

@@ -37,8 +37,8 @@ fn through(a: Place, b: Place, c: Place) -> WholePlane
 }
 
 pub fn plane_on(list: &TouchList<'_>, f: [TouchNo; 3]) -> WholePlane
-    requires { FaceOf list.now (plain f) }
-    ensures { result ≡ plane_on (touch list.now) (plain f) }
+    requires { FaceOf list.now.lent.now (plain f) }
+    ensures { result ≡ plane_on (touch list.now.lent.now) (plain f) }
 {
     let [a, b, c] = corners(list, f);
     through(a, b, c)

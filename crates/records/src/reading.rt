@@ -2,6 +2,7 @@
 ghost use Rattle.std.specs.Prelude.{◌≡◌, ◌*◌, ◌/◌, ◌%◌, ◌≤◌, length};
 ghost use Rattle.laws.specs.Lists.{lay};
 ghost use Rattle.touches.specs.Limits.{most_touches};
+ghost use Rattle.touches.specs.Check.{coords_of};
 ghost use Rattle.records.specs.Record.{of_two, signed16, touches_of};
 ghost use Rattle.records.specs.Answers.{checked_record, ReadGives};
 
@@ -39,7 +40,7 @@ fn check_record<'a>(
     version: u8,
 ) -> Result<TouchList<'a>, Refusal>
     requires { length room.old ≡ most_touches * 3 }
-    ensures { result ≡ checked_record version bytes.now }
+    ensures { coords_of result ≡ checked_record version bytes.now }
 {
     if bytes.len() < 3 {
         return Err(Refusal::RecordLengthWrong);

@@ -26,8 +26,8 @@ fn put_two(buffer: &mut [u8], at: usize, n: u16) -> usize
 }
 
 fn put_body(buffer: &mut [u8], start: usize, list: &TouchList<'_>) -> usize
-    requires { start + length list.now * 2 ≤ length buffer.old }
-    ensures { Laid start (body_of list.now) buffer.old result buffer.new }
+    requires { start + length list.now.lent.now * 2 ≤ length buffer.old }
+    ensures { Laid start (body_of list.now.lent.now) buffer.old result buffer.new }
 {
     let mut at = start;
     for x in list.coords() {
@@ -37,8 +37,8 @@ fn put_body(buffer: &mut [u8], start: usize, list: &TouchList<'_>) -> usize
 }
 
 fn put_record(buffer: &mut [u8], list: &TouchList<'_>, version: u8) -> usize
-    requires { 3 + length list.now * 2 ≤ length buffer.old }
-    ensures { Laid 0 (record_of version list.now) buffer.old result buffer.new }
+    requires { 3 + length list.now.lent.now * 2 ≤ length buffer.old }
+    ensures { Laid 0 (record_of version list.now.lent.now) buffer.old result buffer.new }
 {
     let count = 1 + list.count() * 6;
     let at = put_two(buffer, 0, count as u16);

@@ -6,6 +6,7 @@ use Rattle.touches.specs.declared.TouchNo.{TouchNo}
 use Rattle.touches.specs.declared.refusal.Refusal.{Refusal}
 use Rattle.touches.specs.declared.refusal.Refusal.TheVariants.{CoordinatesNotInThrees, TooManyTouches, CoordinateOutOfRange, PlaceOutOfRange}
 use Rattle.touches.specs.declared.Point.{Point}
+use Rattle.touches.specs.declared.list.TouchList.{TouchList}
 
 abbrev pub pick : {A : Type 0} → Bool → A → A → A
 pick true a b = a
@@ -26,6 +27,11 @@ checked cs =
     pick (eqb (length cs % 3) 0)
     (pick (leb (length cs) (most_touches * 3)) (of_stray cs (stray_from 0 cs)) (Err TooManyTouches))
     (Err CoordinatesNotInThrees)
+
+-- the answer that a touch list comes in, by the list of its coordinates
+abbrev pub coords_of : Result TouchList Refusal → Result (List ℤ) Refusal
+coords_of (Ok l) = Ok l.lent.now
+coords_of (Err r) = Err r
 
 -- its touch count, 0 where it is refused
 abbrev pub checked_count : Result (List ℤ) Refusal → ℕ

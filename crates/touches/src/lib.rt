@@ -8,7 +8,7 @@ pub mod refusal;
 ghost use Rattle.std.specs.Prelude.{◌≡◌, ◌*◌, ◌≤◌, length, not, position};
 ghost use Rattle.touches.specs.Limits.{most_touches, in_range, place_in_range};
 ghost use Rattle.touches.specs.Touches.{plain};
-ghost use Rattle.touches.specs.Check.{stray_from, checked};
+ghost use Rattle.touches.specs.Check.{stray_from, checked, coords_of};
 
 pub use crate::list::TouchList;
 pub use crate::place::Place;
@@ -77,7 +77,7 @@ fn first_stray(coords: &[i32]) -> Option<TouchNo>
 
 // Refusals 1, 2 and 3 of a lent coordinate list, in this order. A function and no `TryFrom`, since it is a call, which the pages name.
 pub fn check(coords: &[i32]) -> Result<TouchList<'_>, Refusal>
-    ensures { result ≡ checked coords.now }
+    ensures { coords_of result ≡ checked coords.now }
 {
     if coords.len() % 3 != 0 {
         return Err(Refusal::CoordinatesNotInThrees);

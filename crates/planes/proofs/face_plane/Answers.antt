@@ -20,7 +20,7 @@ found cs a b c t h k l p q r f = by_line cs a b c h k l t (sym (f ∙ (λ i. in_
 pub returns-then-n-from : goal.returns-then-n-from
 returns-then-n-from c =
     let g = c.args in
-    let cs = g.list.now in
+    let cs = g.list.now.lent.now in
     refused_6 cs g.a.0 g.b.0 g.c.0 (elim c.then-n-from.branch [
       | then-n-from-via-then-n-from w ↦ bad_a cs g.a.0 g.b.0 g.c.0 (omega arith)
       | then-n-from-via-else-n-from+then-n-from-2 w ↦ bad_b cs g.a.0 g.b.0 g.c.0 (omega arith) (omega arith)
@@ -30,12 +30,12 @@ returns-then-n-from c =
 pub returns-then-in_line : goal.returns-then-in_line
 returns-then-in_line c =
     let g = c.args in
-    refused_6 g.list.now g.a.0 g.b.0 g.c.0
-    (found g.list.now g.a.0 g.b.0 g.c.0 true (omega arith) (omega arith) (omega arith) c.touch-p.ensures c.touch-q.ensures c.touch-r.ensures c.if-in_line.ensures)
+    refused_6 g.list.now.lent.now g.a.0 g.b.0 g.c.0
+    (found g.list.now.lent.now g.a.0 g.b.0 g.c.0 true (omega arith) (omega arith) (omega arith) c.touch-p.ensures c.touch-q.ensures c.touch-r.ensures c.if-in_line.ensures)
 
 pub returns : goal.returns
 returns c =
     let g = c.args in
     ap Ok (c.plane_through.ensures ∙ (λ i. plane_of (c.touch-p.ensures i) (c.touch-q.ensures i) (c.touch-r.ensures i)))
-    ∙ plane_6 g.list.now g.a.0 g.b.0 g.c.0
-    (found g.list.now g.a.0 g.b.0 g.c.0 false (omega arith) (omega arith) (omega arith) c.touch-p.ensures c.touch-q.ensures c.touch-r.ensures c.if-in_line.ensures)
+    ∙ plane_6 g.list.now.lent.now g.a.0 g.b.0 g.c.0
+    (found g.list.now.lent.now g.a.0 g.b.0 g.c.0 false (omega arith) (omega arith) (omega arith) c.touch-p.ensures c.touch-q.ensures c.touch-r.ensures c.if-in_line.ensures)

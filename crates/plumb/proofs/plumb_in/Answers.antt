@@ -1,4 +1,4 @@
-use mathlib.Core.Path.{◌≡◌, sym, ap, ◌∙◌}
+use mathlib.Core.Path.{◌≡◌, refl, sym, ap, ◌∙◌}
 use mathlib.Core.List.{List}
 use Prim.Native.Nat.{ℕ, ◌*◌}
 use lib.IntN.{ℤ, pos}
@@ -9,8 +9,8 @@ use mir.ValLaws.{to_z-of_z}
 use Rattle.std.specs.Prelude.{Ok, Err}
 use Rattle.std.proofs.Common.{rules}
 use Rattle.touches.specs.Touches.{touch_count}
-use Rattle.touches.specs.Check.{checked, place_checked}
-use Rattle.touches.proofs.SoundLaws.{accepted_sound, place_passed}
+use Rattle.touches.specs.Check.{place_checked}
+use Rattle.touches.proofs.SoundLaws.{place_passed}
 use Rattle.rules.specs.Heights.{over}
 use Rattle.table.specs.Table.{stride, lent, faces_in, usable}
 use Rattle.points.proofs.NumberLaws.{rd}
@@ -19,10 +19,7 @@ use Rattle.plumb.proofs.OwnRoomLaws.{Filled, own_refused, own_filled}
 use Rattle.plumb.proofs.PlumbedLaws.{sound_plumbed, hull_read, over_place}
 use Rattle.plumb.proofs.plumb_in.Goals as goal
 
--- the list that was checked, and the part of the table that is read
-same : {cs l : List ℤ} → Ok l ≡ checked cs → l ≡ cs
-same {cs} {l} e = (accepted_sound cs l (sym e)).same
-
+-- the part of the table that is read
 part : {cs : List ℤ} {n : ℕ} {t : List ℕ} (f : Filled cs n t) {end : ℕ} → end ≡ n * stride → take end t ≡ lent f.faces
 part {t = t} f e = ap (λ (k : ℕ). take k t) e ∙ f.part
 
@@ -33,7 +30,7 @@ at {x} {y} f g = λ i. over (to_z-of_z w64 x f i) (to_z-of_z w64 y g i) (pos 0)
 pub returns-in_err-hull : goal.returns-in_err-hull
 returns-in_err-hull c =
     let a = c.args in
-    let e : c.from_residual-in_err-hull.result ≡ Err c.in_err-hull.field-0.0 = search rules in
+    let e : c.from_residual.result ≡ Err c.in_err-hull.field-0.0 = search rules in
     e ∙ own_refused a.coords.now a.faces.now c.requires a.x a.y (sym c.in_err-hull.ensures.answer)
 
 pub returns-in_err-q : goal.returns-in_err-q
@@ -43,12 +40,14 @@ returns-in_err-q c =
     let e : c.from_residual-in_err-q.result ≡ Err c.in_err-q.field-0.0 = search rules in
     e ∙ over_place a.coords.now a.x a.y f.is (c.in_err-q.ensures ∙ ap place_checked (at c.ranges.x c.ranges.y)) ∙ sym (sound_plumbed a.coords.now a.x a.y f.sound)
 
+pub invariant_of-list : goal.invariant_of-list
+invariant_of-list c = record { sound = (own_filled c.args.coords.now c.args.faces.now c.in_ok-hull.ensures.answer c.in_ok-hull.ensures.table).sound }
+
 pub tightest-requires : goal.tightest-requires
 tightest-requires c =
     let a = c.args in
-    let cs = a.coords.now in
-    let f = own_filled cs a.faces.now c.in_ok-hull.ensures.answer c.in_ok-hull.ensures.table in
-    (λ i. usable (touch_count (same {cs = cs} c.in_ok-list.ensures i)) (part f c.numbers_of-end.ensures i)) ∙ hull_usable f.sound f.is
+    let f = own_filled a.coords.now a.faces.now c.in_ok-hull.ensures.answer c.in_ok-hull.ensures.table in
+    ap (usable (touch_count a.coords.now)) (part f c.numbers_of-end.ensures) ∙ hull_usable f.sound f.is
 
 pub returns : goal.returns
 returns c =
@@ -58,5 +57,5 @@ returns c =
     let e = c.in_ok-q.ensures ∙ ap place_checked (at c.ranges.x c.ranges.y) in
     let w = (place_passed (over a.x a.y (pos 0)) c.in_ok-q.q (sym e)).0 in
     let h = ap faces_in (part f c.numbers_of-end.ensures) ∙ hull_back f.sound f.is in
-    ap Ok (hull_read cs a.x a.y c.tightest.result c.reading.ensures c.tightest.ensures (same c.in_ok-list.ensures) w h)
+    ap Ok (hull_read cs a.x a.y c.tightest.result c.reading.ensures c.tightest.ensures refl w h)
     ∙ over_place cs a.x a.y f.is e ∙ sym (sound_plumbed cs a.x a.y f.sound)

@@ -8,4 +8,4 @@ pub invariant_of-result : goal.invariant_of-result
 invariant_of-result c =
     let cs = c.args.coords.now in
     let n : stray_from 0 cs ≡ None = cc in
-    record { whole = search rules; few = search rules; near = no_stray 0 cs n }
+    record { sound = record { whole = search rules; few = search rules; near = no_stray 0 cs n } }

@@ -11,24 +11,24 @@ use Rattle.hull.proofs.PlaceLaws.{looked_more, worst_more, against, holding, fla
 use Rattle.hull.proofs.place.look.Goals as goal
 
 pub overflow_cast-f : goal.overflow_cast-f
-overflow_cast-f c = omega (arith, usable_few c.args.list.now c.args.faces.now c.requires)
+overflow_cast-f c = omega (arith, usable_few c.args.list.now.lent.now c.args.faces.now c.requires)
 
 pub face_volume-v-requires : goal.face_volume-v-requires
 face_volume-v-requires c =
-    let cs = c.args.list.now in
+    let cs = c.args.list.now.lent.now in
     let t = c.args.faces.now in
     subst (λ (f : Face). FaceOf cs f) (sym c.face-c.ensures) (usable_face cs t c.requires c.loop-i.i (omega arith))
 
 pub face_holds-requires : goal.face_holds-requires
 face_holds-requires c =
-    let cs = c.args.list.now in
+    let cs = c.args.list.now.lent.now in
     let t = c.args.faces.now in
     let v = c.face_volume-v.ensures in
     (subst (λ (f : Face). FaceOf cs f) (sym c.face-c.ensures) (usable_face cs t c.requires c.loop-i.i (omega arith)), record { is = back tt v; small = back_small tt v })
 
 pub loop-i-preserved : goal.loop-i-preserved
 loop-i-preserved c =
-    let cs = c.args.list.now in
+    let cs = c.args.list.now.lent.now in
     let t = c.args.faces.now in
     let q = c.args.q in
     let l = c.loop-i in
@@ -43,4 +43,4 @@ loop-i-preserved c =
 pub returns : goal.returns
 returns c =
     let l = c.loop-i.invariant in
-    c.settle.ensures ∙ settled_is c.args.list.now c.args.q c.args.faces.now l.worst l.on l.plane (omega arith)
+    c.settle.ensures ∙ settled_is c.args.list.now.lent.now c.args.q c.args.faces.now l.worst l.on l.plane (omega arith)

@@ -14,7 +14,7 @@ find-requires-clause-callable g c =
     (λ x k l e.
     let b : k < n = omega (arith, l, length-map-range_with_len touch_no 0 n) in
     let i : x ≡ touch_no k = e ∙ get_or-map-range_with_len touch_no 0 n k k x b (omega arith) in
-    let j : x.0 < touch_count c.args.list.now = rw i (omega (arith, b, c.count.ensures.is)) in
+    let j : x.0 < touch_count c.args.list.now.lent.now = rw i (omega (arith, b, c.count.ensures.is)) in
     let p = c.requires x j in
     search (rules, p))
 

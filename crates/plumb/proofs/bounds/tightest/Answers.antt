@@ -19,9 +19,9 @@ plane_on-p-requires c =
     let i = c.loop-f.f-index in
     let e = c.faces-f-items.ensures in
     let r : i < room t = omega (arith, ap length e, length_faces t) in
-    subst (FaceOf c.args.list.now)
+    subst (FaceOf c.args.list.now.lent.now)
     (sym (c.corners.ensures ∙ ap (λ (h : List Face). get_or h i []) e ∙ face_at_lem t i r))
-    (usable_face c.args.list.now t c.requires i r)
+    (usable_face c.args.list.now.lent.now t c.requires i r)
 
 pub loop-f-preserved : goal.loop-f-preserved
 loop-f-preserved c =

@@ -22,6 +22,6 @@ loop-x-preserved c =
     let h : Within reach (get_or c.coords-x-items.result.now l.x-index (pos 0)) = rw e (c.coords-x-items.ensures.sound.near l.x-index (omega (arith, inside))) in
     let x = (r_i32 tt h).is ∙ ap (λ (cs : List ℤ). get_or cs l.x-index (pos 0)) e in (
       omega (arith, c.put_two-at.ensures.next, l.invariant.0),
-      rw (body_more c.args.list.now l.x-index (omega (arith, inside)))
+      rw (body_more c.args.list.now.lent.now l.x-index (omega (arith, inside)))
           (laid_then l.invariant.1 (omega (arith, l.invariant.0, c.requires, inside)) (rw (c.bits_of.ensures ∙ ap bits16 x) at c.put_two-at.ensures)),
     )

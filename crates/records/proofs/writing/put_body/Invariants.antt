@@ -6,4 +6,4 @@ use Rattle.records.specs.Record.{body_of}
 use Rattle.records.proofs.writing.put_body.Given as goal
 
 abbrev pub invariant-loop-x : goal.invariant-loop-x
-invariant-loop-x l = (l.at ≡ l.start + l.x-index * 2) × Laid l.start (body_of (take l.x-index l.list)) l.fn.buffer l.at l.buffer
+invariant-loop-x l = (l.at ≡ l.start + l.x-index * 2) × Laid l.start (body_of (take l.x-index l.list.lent.now)) l.fn.buffer l.at l.buffer

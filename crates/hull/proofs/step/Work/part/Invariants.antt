@@ -11,5 +11,5 @@ invariant-loop-i l = record {
   planes_long : length l.self.planes.now ≡ length l.initial.self.planes.now;
   seen_long : length l.self.seen.now ≡ length l.initial.self.seen.now;
   marks : l.self.marks ≡ l.initial.self.marks;
-  parting : Parting l.list l.q l.n l.initial.self.table.now l.self.table.now l.self.seen.now l.self.planes.now l.m l.s l.i;
+  parting : Parting l.list.lent.now l.q l.n l.initial.self.table.now l.self.table.now l.self.seen.now l.self.planes.now l.m l.s l.i;
 }

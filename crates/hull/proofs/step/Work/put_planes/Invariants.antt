@@ -10,5 +10,5 @@ invariant-loop-i l = record {
   planes_long : length l.self.planes.now ≡ length l.initial.self.planes.now;
   marks : l.self.marks ≡ l.initial.self.marks;
   count : l.self.count ≡ l.initial.self.count;
-  planed : Planed l.list l.i l.self.table.now l.self.planes.now;
+  planed : Planed l.list.lent.now l.i l.self.table.now l.self.planes.now;
 }

@@ -34,9 +34,9 @@ step-requires c =
     let h = c.requires in
     let l = c.loop-k.invariant in
     let p = c.put_planes.ensures.same in
-    let w : c.loop-k.self.marks.width ≡ touch_count c.args.list.now = l.width ∙ ap (λ (m : Marks). m.width) p.2 ∙ h.1.width in
+    let w : c.loop-k.self.marks.width ≡ touch_count c.args.list.now.lent.now = l.width ∙ ap (λ (m : Marks). m.width) p.2 ∙ h.1.width in
     let e : length c.loop-k.self.table.now ≡ length c.args.self.now.table.now = l.long ∙ ap length p.0 ∙ c.put_start-self.auto.table in
-    let r : Roomy c.args.list.now (length c.loop-k.self.table.now) c.args.self.now.marks.width = rw e h.1 in
+    let r : Roomy c.args.list.now.lent.now (length c.loop-k.self.table.now) c.args.self.now.marks.width = rw e h.1 in
     (taken_ready l.taken h.0 (omega arith) (omega arith), l.taken.planed, w, l.fresh, step_room l.taken (sym c.has.ensures ∙ c.if-not-has.true) h.0 (omega arith) r)
 
 pub loop-k-preserved : goal.loop-k-preserved

@@ -7,7 +7,7 @@ use Rattle.hull.proofs.step.Work.raise.Given as goal
 
 abbrev pub invariant-loop-k : goal.invariant-loop-k
 invariant-loop-k l = record {
-  taken : Taken l.list (start_of l.s) l.k l.self.count l.self.table.now l.self.planes.now;
+  taken : Taken l.list.lent.now (start_of l.s) l.k l.self.count l.self.table.now l.self.planes.now;
   long : length l.self.table.now ≡ length l.initial.self.table.now;
   width : l.self.marks.width ≡ l.initial.self.marks.width;
   fresh : Fresh l.k l.self.marks.table.now;
