@@ -23,7 +23,7 @@ pub(crate) struct Marker {
 }
 
 impl Marker {
-    // The mark that it leaves: above the 1 that the table starts with.
+    // The mark that it leaves: above the 1 that a table may start with.
     fn stamp(self) -> u16
         ensures { result ≡ stamp self.touch.0 }
     {

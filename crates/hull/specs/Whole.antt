@@ -12,7 +12,7 @@ read_at w q = w.offset -ℤ dot w.normal q
 
 -- what a table of planes starts with
 abbrev pub no_plane : Plane
-no_plane = record { normal = record { x = pos 0; y = pos 0; z = pos 0 }; offset = pos 1 }
+no_plane = record { normal = record { x = pos 0; y = pos 0; z = pos 0 }; offset = pos 0 }
 
 -- plane number j of a table is that of face number j
 pub record PlanedAt (cs : List ℤ) (faces : List Face) (planes : List Plane) (j : ℕ) : Type 0 where

@@ -14,7 +14,7 @@ use Rattle.text.proofs.RoomLaws.{put_laid}
 
 -- a 16-bit number has five digits at most
 pub number_few : {n : ℕ} → n < 2 ^ 16 → length (decimal n) ≤ 5
-number_few {n} h = length_decimal n (omega arith) 4 (omega arith)
+number_few {n} h = length_decimal 4 n (omega arith)
 
 -- the text so far is s, the first `at` bytes of the room
 module _ {at r : ℕ} {s new old mid : List ℕ} (inside : at ≤ length old) (held : take at old ≡ s) (p : Put at new old r mid) (fits : length s + length new ≤ length old) where

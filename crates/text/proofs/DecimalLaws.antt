@@ -3,12 +3,13 @@ use mathlib.Core.Path.{◌≡◌, refl, sym, ap, ◌∙◌}
 use mathlib.Core.Bool.{Bool, true, false}
 use mathlib.Core.List.{List, [], ◌∷◌, ◌++◌}
 use Prim.Native.Nat.{ℕ, zero, suc, ◌/◌, ◌%◌, ◌^◌, ◌<◌, ◌≤◌}
+use native.Mathlib.Nat.{pow-suc}
 use native.Mathlib.Omega.{arith}
 use borrow.Author.Tests.{ltb-true, ltb-false, lt-ltb, le-ltb}
 use lib.Dec.{ltb}
-use lib.ListN.{length}
+use lib.ListN.{length, length-append}
 use Rattle.std.specs.Fmt.{decimal as printed}
-use Rattle.std.proofs.lemmas.Fmt.{decimal_by_steps, length-decimal-le}
+use Rattle.std.proofs.lemmas.Fmt.{decimal_by_steps}
 use Rattle.text.specs.Decimal.{digit, last_digits, decimal}
 
 module _ (k n : ℕ) where
@@ -42,11 +43,17 @@ module _ (n : ℕ) where
   unfolding decimal
   decimal_more h = digits_more n n h ∙ ap (λ (l : List ℕ). l ++ (digit (n % 10) ∷ [])) (digits_same n (suc (n / 10)) (n / 10) (omega arith) (omega arith))
 
-module _ (n : ℕ) (h : n < 2 ^ 64) where
-  -- what std prints of it
-  pub decimal_is : printed n ≡ decimal n
-  decimal_is = decimal_by_steps (λ m ds. ds ≡ decimal m) (λ m l. sym (decimal_one m l)) (λ m ds l e. ap (λ (t : List ℕ). t ++ (digit (m % 10) ∷ [])) e ∙ sym (decimal_more m l)) n h
+-- what std prints of a number
+pub decimal_is : (n : ℕ) → n < 2 ^ 64 → printed n ≡ decimal n
+decimal_is n h = decimal_by_steps (λ m ds. ds ≡ decimal m) (λ m l. sym (decimal_one m l)) (λ m ds l e. ap (λ (t : List ℕ). t ++ (digit (m % 10) ∷ [])) e ∙ sym (decimal_more m l)) n h
 
-  -- a number below a power of ten
-  pub length_decimal : (k : ℕ) → n < 10 ^ suc k → length (decimal n) ≤ suc k
-  length_decimal k g = rw (← decimal_is) (length-decimal-le (suc k) n (omega arith) g h)
+-- a number below a power of ten
+pub length_decimal : (k n : ℕ) → n < 10 ^ suc k → length (decimal n) ≤ suc k
+length_decimal zero n h = rw (decimal_one n h) (omega arith)
+length_decimal (suc k) n h = go (ltb n 10) refl (λ g. length_decimal k (n / 10) g)
+  where
+    go : (b : Bool) → ltb n 10 ≡ b → (n / 10 < 10 ^ suc k → length (decimal (n / 10)) ≤ suc k) → length (decimal n) ≤ suc (suc k)
+    go true t r = rw (decimal_one n (ltb-true n 10 t)) (omega arith)
+    go false t r =
+        let g : n / 10 < 10 ^ suc k = omega (arith, pow-suc 10 (suc k)) in
+        rw (decimal_more n (ltb-false n 10 t)) (simp length-append (omega (arith, r g)))

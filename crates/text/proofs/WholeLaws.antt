@@ -17,5 +17,5 @@ whole_is (negsuc n) f = ap (λ (l : List ℕ). minus ∷ l) (decimal_is (suc n) 
 
 -- a sign and nineteen digits at most
 pub length_whole : (z : ℤ) → SFits w64 z → length (whole z) ≤ 20
-length_whole (pos n) f = omega (arith, length_decimal n (omega (arith, f.sfits)) 18 (omega (arith, f.sfits)))
-length_whole (negsuc n) f = omega (arith, length_decimal (suc n) (omega (arith, f.sfits)) 18 (omega (arith, f.sfits)))
+length_whole (pos n) f = omega (arith, length_decimal 18 n (omega (arith, f.sfits)))
+length_whole (negsuc n) f = omega (arith, length_decimal 18 (suc n) (omega (arith, f.sfits)))
