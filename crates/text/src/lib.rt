@@ -20,12 +20,14 @@ pub fn put_bytes(text: &mut [u8], at: usize, new: &[u8]) -> usize
 }
 
 // Two functions, since `decimal` and `whole` are what the promises name; one over `itoa::Integer` could name std's text alone.
+#[tactic(auto, using(crate::proofs::DecimalLaws::decimal_is))]
 pub fn put_decimal(text: &mut [u8], at: usize, n: u64) -> usize
     ensures { Put at (decimal n) text.old result text.new }
 {
     put_bytes(text, at, Buffer::new().format(n).as_bytes())
 }
 
+#[tactic(auto, using(crate::proofs::WholeLaws::whole_is))]
 pub fn put_whole(text: &mut [u8], at: usize, z: i64) -> usize
     ensures { Put at (whole z) text.old result text.new }
 {
