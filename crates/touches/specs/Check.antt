@@ -28,15 +28,15 @@ checked cs =
     (pick (leb (length cs) (most_touches * 3)) (of_stray cs (stray_from 0 cs)) (Err TooManyTouches))
     (Err CoordinatesNotInThrees)
 
--- the answer that a touch list comes in, by the list of its coordinates
-abbrev pub coords_of : Result TouchList Refusal → Result (List ℤ) Refusal
-coords_of (Ok l) = Ok l.lent.now
-coords_of (Err r) = Err r
-
 -- its touch count, 0 where it is refused
 abbrev pub checked_count : Result (List ℤ) Refusal → ℕ
 checked_count (Ok l) = touch_count l
 checked_count (Err r) = 0
+
+-- the code answers with a touch list: the same answer, with the coordinates that it lends
+abbrev pub coords_of : Result TouchList Refusal → Result (List ℤ) Refusal
+coords_of (Ok l) = Ok l.lent.now
+coords_of (Err r) = Err r
 
 -- a refusal of the list is the call's answer; else the call goes on
 abbrev pub if_accepted : {A B : Type 0} → Result B Refusal → Result A Refusal → Result A Refusal
