@@ -1,12 +1,14 @@
 -- V read from a face's plane, and planes put beside their faces one after another.
-use mathlib.Core.Path.{◌≡◌, sym, ap, ◌∙◌}
+use mathlib.Core.Path.{◌≡◌, refl, sym, ap, ◌∙◌}
 use mathlib.Core.Logic.{◌⊎◌, inl, inr, ◌≢◌}
 use mathlib.Core.Bool.{Bool, true, false}
 use mathlib.Core.List.{List, []}
 use Prim.Native.Nat.{ℕ, ◌+◌, ◌<◌, ◌≤◌}
 use native.Mathlib.Omega.{arith}
-use lib.IntN.{ℤ, pos}
-use lib.ListN.{length, take, get_or}
+use borrow.Author.Tests.{ltb-true, ltb-false}
+use lib.Dec.{ltb}
+use lib.IntN.{ℤ, pos, nat_abs, zero-*ℤ}
+use lib.ListN.{length, take, get_or, get_or-eq_default}
 use lib.Signed.{lt_z}
 use lib.Seq.{get_or-set_same, get_or-set_other, get_or-take, length-take-le}
 use Rattle.std.specs.Prelude.{Some, None, position}
@@ -18,6 +20,7 @@ use Rattle.laws.proofs.Tests.{same_or}
 use Rattle.laws.proofs.Tables.{lay_none, lay_one, length_only}
 use Rattle.touches.specs.declared.Point.{Point}
 use Rattle.touches.specs.Touches.{touch}
+use Rattle.volume.specs.Volume.{dot, offset}
 use Rattle.volume.proofs.PlaneLaws.{plane_vol}
 use Rattle.rules.specs.Faces.{Face, Places, corner, face_vol}
 use Rattle.points.specs.Sizes.{Number}
@@ -32,6 +35,23 @@ read_is p f q = sym (plane_vol (p (corner f 0)) (p (corner f 1)) (p (corner f 2)
 pub planed_number : {cs : List ℤ} {faces : List Face} {planes : List Plane} {j B : ℕ} (q : Point) {r : ℤ} → PlanedAt cs faces planes j
     → Number B (read_at (get_or planes j no_plane) q) r → Number B (face_vol (touch cs) (get_or faces j []) q) r
 planed_number {cs} {faces} {j = j} q e n = record { is = n.is ∙ ap (λ (w : Plane). read_at w q) e.is ∙ read_is (touch cs) (get_or faces j []) q; small = n.small }
+
+-- no face has `no_plane`: where a normal is 0, so is the offset
+no_face : (p : Places) (f : Face) → no_plane ≢ plane_on p f
+unfolding offset
+no_face p f e =
+    let a = p (corner f 0) in
+    let n : dot no_plane.normal a ≡ pos 0 = rw (zero-*ℤ a.x, zero-*ℤ a.y, zero-*ℤ a.z) refl in
+    let o : pos 1 ≡ pos 0 = ap (λ (w : Plane). w.offset) e ∙ sym (ap (λ (w : Plane). dot w.normal a) e) ∙ n in
+    absurd (omega (arith, ap nat_abs o))
+
+-- so a plane that is a face's stands in its table
+pub planed_inside : {cs : List ℤ} {faces : List Face} {planes : List Plane} {j : ℕ} → PlanedAt cs faces planes j → j < length planes
+planed_inside {cs} {faces} {planes} {j} h = go (ltb j (length planes)) refl
+  where
+    go : (b : Bool) → ltb j (length planes) ≡ b → j < length planes
+    go true t = ltb-true j (length planes) t
+    go false t = absurd (no_face (touch cs) (get_or faces j []) (sym (get_or-eq_default planes no_plane (ltb-false j (length planes) t)) ∙ h.is))
 
 -- ---- a plane stored at place i
 pub planed_none : (cs : List ℤ) (faces : List Face) (planes : List Plane) → Planed cs 0 faces planes

@@ -10,9 +10,9 @@ use Rattle.points.specs.Whole.{Plane, plane_on}
 abbrev pub read_at : Plane → Point → ℤ
 read_at w q = w.offset -ℤ dot w.normal q
 
--- what a table of planes starts with
+-- what is read where a table has no such plane; no face has this one
 abbrev pub no_plane : Plane
-no_plane = record { normal = record { x = pos 0; y = pos 0; z = pos 0 }; offset = pos 0 }
+no_plane = record { normal = record { x = pos 0; y = pos 0; z = pos 0 }; offset = pos 1 }
 
 -- plane number j of a table is that of face number j
 pub record PlanedAt (cs : List ℤ) (faces : List Face) (planes : List Plane) (j : ℕ) : Type 0 where
