@@ -42,7 +42,7 @@ unfolding offset
 no_face p f e =
     let a = p (corner f 0) in
     let n : dot no_plane.normal a ≡ pos 0 = rw (zero-*ℤ a.x, zero-*ℤ a.y, zero-*ℤ a.z) refl in
-    let o : pos 1 ≡ pos 0 = ap (λ (w : Plane). w.offset) e ∙ sym (ap (λ (w : Plane). dot w.normal a) e) ∙ n in
+    let o : no_plane.offset ≡ pos 0 = ap (λ (w : Plane). w.offset) e ∙ sym (ap (λ (w : Plane). dot w.normal a) e) ∙ n in
     absurd (omega (arith, ap nat_abs o))
 
 -- so a plane that is a face's stands in its table
